@@ -1,0 +1,4 @@
+pub mod Node
+pub mod Tree
+pub mod Content
+pub mod Range
