@@ -1,0 +1,12 @@
+//! One thing that a transaction did.
+
+use crate::{Command, Reply};
+
+/// A command of a transaction on an object, and the reply of that object to it.
+///
+/// The payload of the command stands as its bytes.
+#[derive(Debug, Drop)]
+pub struct Act {
+    pub command: Command,
+    pub reply: Reply,
+}
