@@ -1,0 +1,5 @@
+pub mod Runs
+pub mod Levels
+pub mod Laws
+pub mod Changes
+pub mod Rows
