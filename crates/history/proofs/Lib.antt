@@ -1,0 +1,4 @@
+pub mod Acts
+pub mod EventLaws
+pub mod Ends
+pub mod Objects
