@@ -1,6 +1,6 @@
 -- Sets of pages, their blocks, and the block that a grant takes. A set of pages of a space is a
 -- list with one test a page. How a block is computed is left to Place.antt.
-use Rattle.std.specs.Prelude.{◌≡◌, ℕ, suc, ◌+◌, ◌*◌, ◌^◌, ◌<◌, ◌≤◌, Bool, false, IsTrue, List, ◌++◌, take, drop, replicate, slice_index_or, Option, Some, None}
+use Rattle.std.specs.Prelude.{◌≡◌, ℕ, suc, ◌+◌, ◌*◌, ◌^◌, ◌<◌, ◌≤◌, Bool, false, IsTrue, List, ◌++◌, take, drop, replicate, slice_index_or, count_by, Option, Some, None}
 
 -- whether a page is in the set; a page past the end of the list is not
 abbrev pub has_page : List Bool → ℕ → Bool
@@ -50,6 +50,10 @@ IsLargest free None = HasNoRoom free 1
 pub record IsHint (free : List Bool) (hint : ℕ) : Type 0 where
   pub above : (i r : ℕ) → IsBlock free i r → i < hint
   pub reached : (order : ℕ) → hint ≡ suc order → (number : ℕ) × IsBlock free order number
+
+-- how many pages are in the set
+abbrev pub count_of : List Bool → ℕ
+count_of pages = count_by (λ is_in. is_in) pages
 
 -- the set in which the n pages from `first` on are in or out, and all others as before
 abbrev pub with_run : List Bool → ℕ → ℕ → Bool → List Bool

@@ -7,5 +7,7 @@
 #![tactic(auto)]
 
 mod order;
+mod run;
 
 pub use order::order_of;
+pub use run::{count_pages, insert_run, remove_run};
