@@ -1,0 +1,4 @@
+pub mod Machine
+pub mod Next
+pub mod Replies
+pub mod Runs

@@ -1,0 +1,26 @@
+-- Whole runs of the machine. The newest event comes first.
+use Rattle.std.specs.Prelude.{List, [], ◌∷◌}
+use Rattle.history.specs.Event.{Event, deed_of}
+use Rattle.machine.specs.Machine.{Machine, IsSession}
+use Rattle.machine.specs.Next.{next, May}
+use Rattle.machine.specs.Replies.{Replies}
+
+-- the machine after these events
+abbrev pub state_after : Machine → List Event → Machine
+state_after m [] = m
+state_after m (e ∷ past) = next (state_after m past) e.session (deed_of e)
+
+-- each event's deed may come where it comes
+abbrev pub MayRun : Machine → List Event → Type 0
+MayRun m [] = Unit {0}
+MayRun m (e ∷ past) = MayRun m past × May (state_after m past) e.session (deed_of e)
+
+-- an event of a session, with a reply that the machine owes or may give
+pub record IsEvent (m : Machine) (e : Event) : Type 0 where
+  pub session : IsSession m e.session
+  pub reply : Replies m e.session e.command e.reply
+
+-- each event has such a reply
+abbrev pub IsRun : Machine → List Event → Type 0
+IsRun m [] = Unit {0}
+IsRun m (e ∷ past) = IsRun m past × IsEvent (state_after m past) e
