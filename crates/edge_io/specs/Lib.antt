@@ -1,0 +1,3 @@
+pub mod Cause
+pub mod Moved
+pub mod Doubles
