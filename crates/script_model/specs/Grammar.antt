@@ -2,7 +2,7 @@
 use Rattle.std.specs.Prelude.{◌≡◌, ℕ, ◌<◌, ◌≤◌, ◌^◌, List, [], ◌∷◌, ◌++◌, codes, Option, Some, None}
 use Rattle.std.specs.Fmt.{decimal}
 use Rattle.std.specs.List.{join_with_byte}
-use Rattle.hex.specs.Hex.{encode_lower}
+use Rattle.hex.specs.Hex.{IsBytes, encode_lower}
 use Rattle.eos_ops.specs.declared.command.Command.{Command}
 use Rattle.eos_ops.specs.declared.command.Command.TheVariants.{Begin, Create, Destroy, Length, Read, Append, Insert, Delete, Replace, Commit, Abort, Status}
 use Rattle.eos_ops.specs.declared.limits.TheConstants.{SESSIONS}
@@ -40,9 +40,9 @@ words_of Status = codes "status" ∷ []
 abbrev pub spelled : Line → List ℕ
 spelled l = join_with_byte 32 (decimal l.session ∷ words_of l.command)
 
--- a made payload's length and start are numbers of 64 and of 32 bits
+-- a given payload has bytes, and a made one's length and start are numbers of 64 and of 32 bits
 abbrev pub PayloadFits : Payload → Type 0
-PayloadFits (Given bytes) = Unit {0}
+PayloadFits (Given bytes) = IsBytes bytes
 PayloadFits (Made n start) = (n < 2 ^ 64) × (start < 2 ^ 32)
 
 -- a threshold that a `create` may name
