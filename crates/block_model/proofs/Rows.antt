@@ -1,7 +1,8 @@
 -- A worked space of 16 pages, computed by the definitions: grants of 3, 1, 5, 3 and 4 pages, and
 -- what is free after two gives.
-use Rattle.std.proofs.Common.{◌≡◌, true, false, ◌++◌, replicate, Some, None, refl}
+use Rattle.std.proofs.Common.{◌≡◌, true, false, ◌++◌, ◌∷◌, [], take, replicate, Some, None, refl}
 use Rattle.block_model.specs.Block.{with_run}
+use Rattle.block_model.specs.Directory.{directory_page}
 use Rattle.block_model.specs.Place.{place, largest, hint_of, least_order}
 
 first_three : place (replicate 16 true) 3 ≡ Some 0
@@ -67,3 +68,7 @@ order_of_4 = refl
 order_of_1 : least_order 1 ≡ 0
 unfolding least_order
 order_of_1 = refl
+
+-- the first bytes of the directory page of space 0 after 3 pages were granted
+first_directory : take 18 (directory_page 256 0 (replicate 3 false ++ replicate 13 true)) ≡ 68 ∷ 73 ∷ 82 ∷ 49 ∷ 0 ∷ 0 ∷ 0 ∷ 0 ∷ 0 ∷ 0 ∷ 0 ∷ 13 ∷ 0 ∷ 0 ∷ 0 ∷ 0 ∷ 31 ∷ 255 ∷ []
+first_directory = refl

@@ -1,2 +1,4 @@
 pub mod Block
 pub mod Place
+pub mod Bitmap
+pub mod Directory
