@@ -9,16 +9,8 @@ use Rattle.eos_ops.specs.declared.act.Act.{Act}
 use Rattle.eos_ops.specs.declared.plain.Plain.{Plain}
 use Rattle.eos_ops.specs.declared.plain.Plain.TheVariants.{Absent}
 use Rattle.eos_ops.specs.Objects.{object_of, reply_in, after_in}
-use Rattle.history.specs.Serial.{object_at, IsRight, after_act, RightActs, after_acts, acts_on, RightAt, replayed}
+use Rattle.history.specs.Serial.{IsInside, AreInside, object_at, IsRight, after_act, RightActs, after_acts, acts_on, RightAt, replayed}
 use Rattle.history.proofs.Acts.{is_on-same, is_on-other, acts_on-same, acts_on-other}
-
--- an act on an object below n
-abbrev pub IsInside : ℕ → Act → Type 0
-IsInside n a = IsSomeAnd (object_of a.command) (λ o. o < n)
-
-abbrev pub AreInside : ℕ → List Act → Type 0
-AreInside n [] = Unit {0}
-AreInside n (a ∷ acts) = IsInside n a × AreInside n acts
 
 pub AreInside-push : (n : ℕ) (acts : List Act) (a : Act) → AreInside n acts → IsInside n a → AreInside n (acts ++ a ∷ [])
 AreInside-push n [] a all one = (one, tt)

@@ -59,3 +59,12 @@ RightAt x (a ∷ acts) = (reply_in a.command x ≡ a.reply) × RightAt (after_in
 abbrev pub replayed : Plain → List Act → Plain
 replayed x [] = x
 replayed x (a ∷ acts) = replayed (after_in a.command x) acts
+
+-- an act on an object below n
+abbrev pub IsInside : ℕ → Act → Type 0
+IsInside n a = IsSomeAnd (object_of a.command) (λ o. o < n)
+
+-- all of them
+abbrev pub AreInside : ℕ → List Act → Type 0
+AreInside n [] = Unit {0}
+AreInside n (a ∷ acts) = IsInside n a × AreInside n acts

@@ -2,3 +2,4 @@ pub mod Machine
 pub mod Next
 pub mod Replies
 pub mod Runs
+pub mod Sound

@@ -4,3 +4,7 @@
 //! There is no code that runs here. A layer that has sessions shows the machine as its model, and its step
 //! is one step of the machine; so what is proved of every list of events holds of the layer.
 #![tactic(auto)]
+
+mod law;
+
+pub use law::every_run_is_serial;
