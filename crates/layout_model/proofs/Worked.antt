@@ -5,10 +5,12 @@ use Rattle.geometry_model.specs.Numbers.{Numbers}
 use Rattle.tree_model.specs.declared.entry.Pair.{Pair}
 use Rattle.block_model.specs.Place.{place}
 use Rattle.layout_model.specs.Parts.{parts_of}
-use Rattle.layout_model.specs.Parts.Part.{Keep, Make}
+use Rattle.layout_model.specs.declared.part.Part.TheVariants.{Keep, Make}
 use Rattle.layout_model.specs.Pack.{pack}
-use Rattle.layout_model.specs.Plan.{Change, Extent, planned, ask_of}
-use Rattle.layout_model.specs.Plan.Fit.{Extend, Follow, Fresh}
+use Rattle.layout_model.specs.declared.extent.Extent.{Extent}
+use Rattle.layout_model.specs.declared.change.Change.{Change}
+use Rattle.layout_model.specs.Plan.{planned, ask_of}
+use Rattle.layout_model.specs.declared.fit.Fit.TheVariants.{Extend, Follow, Fresh}
 use Rattle.layout_model.specs.Levels.{PageNode, spliced, nodes_of, count_made, sizes_of}
 use Rattle.layout_model.specs.Grants.Answer.{Got, Refused}
 use Rattle.layout_model.specs.Layout.{Tree, granted, laid}

@@ -6,7 +6,8 @@ use Rattle.geometry_model.specs.Numbers.{Numbers}
 use Rattle.geometry_model.specs.Pages.{data_page}
 use Rattle.block_model.specs.Block.{with_run}
 use Rattle.block_model.specs.Place.{place}
-use Rattle.layout_model.specs.Plan.{Extent}
+use Rattle.layout_model.specs.declared.extent.Extent.{Extent}
+use Rattle.layout_model.specs.declared.request.Request.{Request}
 
 -- the free pages of a store: for each space a test of each of its pages
 abbrev pub Spaces : Type 0
@@ -76,11 +77,6 @@ halved (suc steps) n start threshold pages spaces =
           and_then (halved steps n start threshold ((pages + 1) / 2) spaces) (λ first left.
           and_then (halved steps n start threshold (pages / 2) left) (λ second rest. Got (first ++ second) rest))
     ])
-
--- what is asked for a part: the pages that are wished, and those that it needs
-pub record Request : Type 0 where
-  pub want : ℕ
-  pub need : ℕ
 
 -- the runs of one part: the wish as one run, or else the need, halved where it must be
 abbrev pub part_runs : Numbers → ℕ → ℕ → Request → Spaces → Answer (List Extent)

@@ -4,12 +4,15 @@ use Rattle.std.specs.Prelude.{ℕ, ◌-◌, ◌*◌, min, Bool, Option, Some, No
 use Rattle.geometry_model.specs.Numbers.{Numbers, space_pages, fan_out}
 use Rattle.tree_model.specs.declared.entry.Pair.{Pair}
 use Rattle.tree_model.specs.Tree.{page_count}
-use Rattle.layout_model.specs.Parts.{Part}
-use Rattle.layout_model.specs.Parts.Part.{Keep, Make}
-use Rattle.layout_model.specs.Plan.{Change, Extent, extent_pages, past, Plan, planned, ask_of, made_bytes, last_entry}
-use Rattle.layout_model.specs.Plan.Fit.{Extend, Follow, Fresh}
+use Rattle.layout_model.specs.declared.part.Part.{Part}
+use Rattle.layout_model.specs.declared.part.Part.TheVariants.{Keep, Make}
+use Rattle.layout_model.specs.declared.extent.Extent.{Extent}
+use Rattle.layout_model.specs.declared.change.Change.{Change}
+use Rattle.layout_model.specs.Plan.{extent_pages, past, Plan, planned, ask_of, made_bytes, last_entry}
+use Rattle.layout_model.specs.declared.fit.Fit.TheVariants.{Extend, Follow, Fresh}
 use Rattle.layout_model.specs.Levels.{PageNode, NewLevel, entries_of, spliced, nodes_of, count_made}
-use Rattle.layout_model.specs.Grants.{Spaces, Answer, Request, and_then, all_runs, node_pages}
+use Rattle.layout_model.specs.declared.request.Request.{Request}
+use Rattle.layout_model.specs.Grants.{Spaces, Answer, and_then, all_runs, node_pages}
 use Rattle.layout_model.specs.Grants.Answer.{Got}
 
 -- the tree of an object: its nodes level by level, the lowest first, and its threshold

@@ -3,8 +3,9 @@
 use Rattle.std.specs.Prelude.{ℕ, ◌+◌, ◌≤◌, Bool, true, false, ◌&&◌, List, [], ◌∷◌, nat_lt, ◌⊎◌}
 use Rattle.tree_model.specs.declared.entry.Pair.{Pair}
 use Rattle.tree_model.specs.Tree.{page_count}
-use Rattle.layout_model.specs.Parts.{Part, part_bytes}
-use Rattle.layout_model.specs.Parts.Part.{Make}
+use Rattle.layout_model.specs.declared.part.Part.{Part}
+use Rattle.layout_model.specs.declared.part.Part.TheVariants.{Make}
+use Rattle.layout_model.specs.Parts.{part_bytes}
 
 -- does a part have fewer than `least` pages?
 abbrev pub is_small : ℕ → ℕ → Part → Bool

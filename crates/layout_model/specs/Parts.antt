@@ -4,12 +4,10 @@
 use Rattle.std.specs.Prelude.{ℕ, suc, ◌+◌, ◌-◌, ◌*◌, ◌/◌, ◌%◌, min, List, [], ◌∷◌, ◌++◌, map, take, drop, replicate, nat_eq, nat_le, nat_lt, if◌then◌else◌}
 use Rattle.tree_model.specs.declared.entry.Pair.{Pair}
 use Rattle.tree_model.specs.Tree.{page_count}
+use Rattle.layout_model.specs.declared.part.Part.{Part}
+use Rattle.layout_model.specs.declared.part.Part.TheVariants.{Keep, Make}
 
--- a part of the new object: bytes that stay on the pages that they have, or bytes that get new pages
-pub data Part : Type 0 where
-  Keep : (pair : Pair) → Part
-  Make : (bytes : ℕ) → Part
-
+-- the bytes of a part
 abbrev pub part_bytes : Part → ℕ
 part_bytes (Keep pair) = pair.bytes
 part_bytes (Make bytes) = bytes

@@ -4,14 +4,14 @@ use Rattle.std.specs.Prelude.{ℕ, ◌+◌, ◌-◌, ◌*◌, ◌%◌, min, max,
 use Rattle.geometry_model.specs.Numbers.{Numbers, space_pages}
 use Rattle.tree_model.specs.declared.entry.Pair.{Pair}
 use Rattle.tree_model.specs.Tree.{page_count}
-use Rattle.layout_model.specs.Parts.{Part, parts_of, ended, begun, one_before, one_after}
-use Rattle.layout_model.specs.Parts.Part.{Keep, Make}
+use Rattle.layout_model.specs.Parts.{parts_of, ended, begun, one_before, one_after}
+use Rattle.layout_model.specs.declared.change.Change.{Change}
+use Rattle.layout_model.specs.declared.extent.Extent.{Extent}
+use Rattle.layout_model.specs.declared.fit.Fit.{Fit}
+use Rattle.layout_model.specs.declared.fit.Fit.TheVariants.{Extend, Follow, Fresh}
+use Rattle.layout_model.specs.declared.part.Part.{Part}
+use Rattle.layout_model.specs.declared.part.Part.TheVariants.{Keep, Make}
 use Rattle.layout_model.specs.Pack.{pack}
-
--- a run of pages
-pub record Extent : Type 0 where
-  pub page : ℕ
-  pub pages : ℕ
 
 -- a run of pages, and none where it has no page
 abbrev pub extent : ℕ → ℕ → Option Extent
@@ -25,21 +25,6 @@ extent_pages (Some run) = run.pages
 abbrev pub past : ℕ → Option Extent → Option Extent
 past pages None = None
 past pages (Some run) = extent (run.page + pages) (run.pages - pages)
-
--- a change of an object: `removed` bytes at `at` make way for `added` ones. Only an append, and no insert
--- at the end, meets the tail.
-pub record Change : Type 0 where
-  pub at : ℕ
-  pub removed : ℕ
-  pub added : ℕ
-  pub appends : Bool
-
--- how new bytes meet spare pages: they extend the last segment, they follow it as a segment of their own,
--- or they get fresh pages
-pub data Fit : Type 0 where
-  Extend : Fit
-  Follow : Fit
-  Fresh : Fit
 
 -- the rule for a need of pages, where the last page of the last segment is full or not
 abbrev pub fit_of : ℕ → ℕ → Bool → Fit

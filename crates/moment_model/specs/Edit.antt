@@ -4,7 +4,8 @@ use Rattle.std.specs.Prelude.{ℕ, ◌+◌, ◌/◌, min, Bool, true, false, Opt
 use Rattle.geometry_model.specs.Numbers.{Numbers, space_pages}
 use Rattle.eos_ops.specs.declared.edit.Edit.{Edit}
 use Rattle.eos_ops.specs.declared.edit.Edit.TheVariants.{Create, Destroy, Append, Insert, Delete, Replace}
-use Rattle.layout_model.specs.Plan.{Change, Extent}
+use Rattle.layout_model.specs.declared.extent.Extent.{Extent}
+use Rattle.layout_model.specs.declared.change.Change.{Change}
 use Rattle.layout_model.specs.Grants.{Spaces, Answer}
 use Rattle.layout_model.specs.Grants.Answer.{Got, Refused}
 use Rattle.layout_model.specs.Layout.{Tree, Grants, granted, laid}

@@ -4,7 +4,7 @@ use Rattle.std.specs.Prelude.{◌≡◌, ◌≢◌, ℕ, ◌+◌, ◌<◌, ◌�
 use Rattle.std.specs.List.{range_with_len}
 use Rattle.geometry_model.specs.Numbers.{Numbers, space_pages}
 use Rattle.geometry_model.specs.Pages.{data_page}
-use Rattle.layout_model.specs.Plan.{Extent}
+use Rattle.layout_model.specs.declared.extent.Extent.{Extent}
 use Rattle.layout_model.specs.Grants.{Spaces}
 use Rattle.moment_model.specs.Version.{Version, IsGoodVersion, version_uses, segment_uses, node_uses, spare_uses}
 

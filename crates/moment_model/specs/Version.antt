@@ -6,7 +6,7 @@ use Rattle.geometry_model.specs.Pages.{is_data_page}
 use Rattle.tree_model.specs.declared.entry.Pair.{Pair}
 use Rattle.tree_model.specs.Tree.{page_count, bytes_of, IsSegment}
 use Rattle.layout_model.specs.Pack.{Packed}
-use Rattle.layout_model.specs.Plan.{Extent}
+use Rattle.layout_model.specs.declared.extent.Extent.{Extent}
 use Rattle.layout_model.specs.Levels.{PageNode, pair_of, pairs_of}
 use Rattle.layout_model.specs.Layout.{Tree, tree_entries}
 
