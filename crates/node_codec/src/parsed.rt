@@ -1,0 +1,31 @@
+//! A node in memory, with room for as many pairs as a page has.
+
+ghost use Rattle.std.specs.Prelude.{◌≡◌, ◌≤◌, [], IfOk};
+ghost use Rattle.tree_model.specs.Node.{room_of};
+
+use crate::Pairs;
+use std::alloc::{AllocError, Global};
+
+/// A node of a tree: its level, counted from 1 at the bottom, and its pairs in order.
+#[derive(Drop)]
+pub struct Node {
+    /// The level, from 1 to 255 in a node that stands on a page.
+    pub level: u8,
+    /// The pairs, one at least in a node that stands on a page.
+    pub pairs: Pairs,
+}
+
+/// The page holds no node: no node has these bytes.
+#[derive(Clone, Copy, PartialEq, Eq, Debug)]
+pub struct BadNode;
+
+impl Node {
+    /// A node without pairs, with room for all that a page of `page` bytes can hold.
+    pub fn prepared(alloc: Global, page: u32) -> Result<Node, AllocError>
+        ensures room { IfOk result (λ node. room_of page ≤ node.pairs.room) }
+        ensures empty { IfOk result (λ node. node.pairs.items ≡ []) }
+    {
+        let pairs = Pairs::with_room(alloc, page.saturating_sub(8) as usize / 12)?;
+        Ok(Node { level: 0, pairs })
+    }
+}
