@@ -66,7 +66,7 @@ database-close m s number true done inside stands =
 database-close m s number false done inside stands = sym (aborted_stays m.slots s (stamp_of m s))
 
 -- what is said of session t and object o once session s has let its objects go
-settled_stands : (s t o stamp : ℕ) (committed : Bool) (acts : Option (List Act)) (slot : Slot) → (t ≡ s → ⊥) → Stands t o acts slot → Stands t o acts (settled s committed stamp slot)
+pub settled_stands : (s t o stamp : ℕ) (committed : Bool) (acts : Option (List Act)) (slot : Slot) → (t ≡ s → ⊥) → Stands t o acts slot → Stands t o acts (settled s committed stamp slot)
 settled_stands s t o stamp committed acts slot apart stands =
     elim (cases_Bool (is_holder s slot.holder)) [
       | inl held ↦ subst (λ (x : Slot). Stands t o acts x) (sym (settled-held s stamp committed slot held)) (released_stands acts committed (subst (λ (b : Bool). StandsBy o acts b slot.committed slot.working) (held-other s t slot.holder held apart) stands))
@@ -79,7 +79,7 @@ settled_stands s t o stamp committed acts slot apart stands =
     released_stands (Some done) true stands = stands
     released_stands (Some done) false stands = stands
 
-settled_free : (s stamp : ℕ) (committed : Bool) (slot : Slot) → is_holder s (settled s committed stamp slot).holder ≡ false
+pub settled_free : (s stamp : ℕ) (committed : Bool) (slot : Slot) → is_holder s (settled s committed stamp slot).holder ≡ false
 settled_free s stamp committed slot =
     elim (cases_Bool (is_holder s slot.holder)) [
       | inl held ↦ ap (λ (x : Slot). is_holder s x.holder) (settled-held s stamp committed slot held) ∙ released_free committed
@@ -90,7 +90,7 @@ settled_free s stamp committed slot =
     released_free true = refl
     released_free false = refl
 
-settled_held : (s t stamp : ℕ) (committed : Bool) (slot : Slot) → (t ≡ s → ⊥) → is_holder t slot.holder ≡ is_holder t (settled s committed stamp slot).holder
+pub settled_held : (s t stamp : ℕ) (committed : Bool) (slot : Slot) → (t ≡ s → ⊥) → is_holder t slot.holder ≡ is_holder t (settled s committed stamp slot).holder
 settled_held s t stamp committed slot apart =
     elim (cases_Bool (is_holder s slot.holder)) [
       | inl held ↦ held-other s t slot.holder held apart ∙ sym (ap (λ (x : Slot). is_holder t x.holder) (settled-held s stamp committed slot held) ∙ released_free committed)
@@ -101,7 +101,7 @@ settled_held s t stamp committed slot apart =
     released_free true = refl
     released_free false = refl
 
-settled_rests : (s stamp : ℕ) (committed : Bool) (slot : Slot) → (slot.holder ≡ None → slot.working ≡ slot.committed) → (settled s committed stamp slot).holder ≡ None → (settled s committed stamp slot).working ≡ (settled s committed stamp slot).committed
+pub settled_rests : (s stamp : ℕ) (committed : Bool) (slot : Slot) → (slot.holder ≡ None → slot.working ≡ slot.committed) → (settled s committed stamp slot).holder ≡ None → (settled s committed stamp slot).working ≡ (settled s committed stamp slot).committed
 settled_rests s stamp committed slot rests =
     elim (cases_Bool (is_holder s slot.holder)) [
       | inl held ↦ subst (λ (x : Slot). x.holder ≡ None → x.working ≡ x.committed) (sym (settled-held s stamp committed slot held)) (released_rests committed)

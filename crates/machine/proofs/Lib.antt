@@ -1,8 +1,13 @@
 pub mod Answering
 pub mod Begins
+pub mod Caused
 pub mod Changes
 pub mod Closing
+pub mod Counting
 pub mod Places
 pub mod Replying
+pub mod Sizes
 pub mod Soundness
+pub mod Stamping
+pub mod Stepping
 pub mod Touches

@@ -48,7 +48,7 @@ can_use m s c o on none =
     let active : is_active m s ≡ true = session_active (is_active m s) c o on (sym (seat_refused-session (seat_at m s) c o on) ∙ parts.0) in
     usable_object m s o active (sym (ap (λ (t : Option ℕ). option_and_then (object_refused m s) t) on) ∙ parts.1)
 
-answer-object : (m : Machine) (c : Command) (o : ℕ) → object_of c ≡ Some o → answer m c ≡ reply_in c (slot_at m o).working
+pub answer-object : (m : Machine) (c : Command) (o : ℕ) → object_of c ≡ Some o → answer m c ≡ reply_in c (slot_at m o).working
 answer-object m c o on = ap (λ (t : Option ℕ). option_map_or (λ p. reply_in c (slot_at m p).working) t (bounds_reply c)) on
 
 may_object : (m : Machine) (s : ℕ) (c : Command) (r : Reply) (o : ℕ) → object_of c ≡ Some o → refused m s c ≡ None → (r ≡ answer m c) ⊎ IsTrue (is_taking (deed c r)) → May m s (deed c r)

@@ -1,5 +1,5 @@
 -- The machine: a slot for each object and a seat for each session. Plain data, and no code.
-use Rattle.std.specs.Prelude.{◌≡◌, ℕ, zero, suc, ◌<◌, ◌≤◌, List, Bool, false, ◌==◌, Option, Some, None, length, map, slice_index_or, slice_set}
+use Rattle.std.specs.Prelude.{◌≡◌, ℕ, zero, suc, ◌<◌, ◌≤◌, List, Bool, false, ◌==◌, Option, Some, None, length, map, replicate, slice_index_or, slice_set}
 use Rattle.eos_ops.specs.declared.plain.Plain.{Plain}
 use Rattle.eos_ops.specs.declared.plain.Plain.TheVariants.{Absent}
 use Rattle.history.specs.Holding.{count_below}
@@ -79,3 +79,11 @@ pub record AtRest (m : Machine) : Type 0 where
   pub idle : (s : ℕ) → is_active m s ≡ false
   pub free : (o : ℕ) → (slot_at m o).holder ≡ None
   pub equal : (o : ℕ) → (slot_at m o).working ≡ (slot_at m o).committed
+
+-- an object that nobody has touched yet
+abbrev pub new_slot : Plain → Slot
+new_slot object = record { committed = object; working = object; holder = None; stamp = 0 }
+
+-- the machine of n sessions before the first event, over the objects of a database
+abbrev pub fresh : ℕ → List Plain → Machine
+fresh n db = record { slots = map new_slot db; seats = replicate n no_seat }

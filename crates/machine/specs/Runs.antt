@@ -1,7 +1,7 @@
 -- Whole runs of the machine. The newest event comes first.
-use Rattle.std.specs.Prelude.{List, [], ◌∷◌}
+use Rattle.std.specs.Prelude.{ℕ, ◌≤◌, List, [], ◌∷◌}
 use Rattle.history.specs.Event.{Event, deed_of}
-use Rattle.machine.specs.Machine.{Machine, IsSession}
+use Rattle.machine.specs.Machine.{Machine, IsSession, slot_at, seat_at}
 use Rattle.machine.specs.Next.{next, May}
 use Rattle.machine.specs.Replies.{Replies}
 
@@ -24,3 +24,8 @@ pub record IsEvent (m : Machine) (e : Event) : Type 0 where
 abbrev pub IsRun : Machine → List Event → Type 0
 IsRun m [] = Unit {0}
 IsRun m (e ∷ past) = IsRun m past × IsEvent (state_after m past) e
+
+-- no stamp of a session or of an object is above n
+pub record StampsUpTo (n : ℕ) (m : Machine) : Type 0 where
+  pub seats : (s : ℕ) → (seat_at m s).stamp ≤ n
+  pub slots : (o : ℕ) → (slot_at m o).stamp ≤ n

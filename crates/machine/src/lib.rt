@@ -7,4 +7,7 @@
 
 mod law;
 
-pub use law::every_run_is_serial;
+pub use law::{
+    every_machine_is_serial, every_reply_has_its_cause, every_run_is_serial,
+    new_objects_are_at_rest,
+};
