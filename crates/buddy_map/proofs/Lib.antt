@@ -1,0 +1,3 @@
+pub mod Grow
+pub mod Next
+pub mod Best

@@ -1,0 +1,150 @@
+//! The map of a space's free pages, and its calls.
+
+ghost use Rattle.std.specs.Prelude.{◌≡◌, ◌+◌, ◌*◌, ◌^◌, ◌<◌, ◌≤◌, Bool, true, false, List, length, replicate, IfOk, IfSome, IfNone};
+ghost use Rattle.block_model.specs.Block.{has_page, count_of, with_run, IsPlace, IsLargest};
+ghost use Rattle.block_model.specs.Place.{place, largest as greatest};
+ghost use Rattle.block_model.specs.Bitmap.{packed, unpacked};
+
+use crate::bits::{pack, unpack};
+use crate::place::{largest_of, place_of};
+use block_model::{count_pages, insert_run, remove_run};
+use std::alloc::{AllocError, Global};
+use std::marker::Model;
+
+/// The free pages of one space of `2^order` pages, `order` 4 to 14. A contract sees it as one
+/// test a page: whether the page is free.
+#[derive(Drop)]
+pub struct BuddyMap {
+    pages: Vec<bool>,
+    free: u32,
+}
+
+impl Model for BuddyMap {
+    ghost Value = { List Bool };
+
+    ghost view = { λ m. m.pages.items };
+
+    ghost invariant = { λ m. (m.free ≡ count_of m.pages.items) × (length m.pages.items ≤ 2 ^ 14) };
+}
+
+impl BuddyMap {
+    /// A map with all `2^order` pages free. It refuses for want of memory alone.
+    pub fn new(alloc: Global, order: u8) -> Result<BuddyMap, AllocError>
+        requires low { 4 ≤ order }
+        requires high { order ≤ 14 }
+        ensures { IfOk result (λ map. map ≡ replicate (2 ^ order) true) }
+    {
+        let size: u32 = 1 << order;
+        let pages = vec![in alloc; true; size as usize]?;
+        Ok(BuddyMap { pages, free: size })
+    }
+
+    /// A map whose free pages are those of a bitmap of `2^order / 8` bytes: eight pages a byte,
+    /// the first of them its highest bit. It refuses for want of memory alone.
+    pub fn from_bits(alloc: Global, order: u8, bits: &[u8]) -> Result<BuddyMap, AllocError>
+        requires low { 4 ≤ order }
+        requires high { order ≤ 14 }
+        requires whole { 8 * length bits.now ≡ 2 ^ order }
+        ensures { IfOk result (λ map. map ≡ unpacked bits.now) }
+    {
+        let pages = unpack(alloc, bits)?;
+        let free = count_pages(&pages) as u32;
+        Ok(BuddyMap { pages, free })
+    }
+
+    /// Takes the first `n` pages of the lowest maximal block among those of the least order that
+    /// holds `n`, and returns the first of them. `None` comes exactly where no block has `n`
+    /// pages, and then nothing changes. It takes no memory.
+    pub fn grant(&mut self, n: u32) -> Option<u32>
+        requires some { 1 ≤ n }
+        requires fits { n ≤ length self.old }
+        ensures best { IsPlace self.old n result }
+        ensures computed { result ≡ place self.old n }
+        ensures taken { IfSome result (λ first. self.new ≡ with_run self.old first n false) }
+        ensures refused { IfNone result (self.new ≡ self.old) }
+        ensures size { length self.new ≡ length self.old }
+    {
+        let Some(first) = place_of(&self.pages, n) else {
+            return None;
+        };
+        self.free -= remove_run(&mut self.pages, first, n);
+        Some(first)
+    }
+
+    /// Gives the `n` pages from `first` on back: the free pages become the union. It takes no
+    /// memory.
+    pub fn give(&mut self, first: u32, n: u32)
+        requires some { 1 ≤ n }
+        requires within { first + n ≤ length self.old }
+        ensures given { self.new ≡ with_run self.old first n true }
+        ensures size { length self.new ≡ length self.old }
+    {
+        self.free += insert_run(&mut self.pages, first, n);
+    }
+
+    /// The greatest order of a block, and none where no page is free.
+    pub fn largest(&self) -> Option<u8>
+        ensures greatest { IsLargest self.now result }
+        ensures computed { result ≡ greatest self.now }
+    {
+        largest_of(&self.pages)
+    }
+
+    /// Whether a page is free.
+    pub fn is_free(&self, page: u32) -> bool
+        requires { page < length self.now }
+        ensures { result ≡ has_page self.now page }
+    {
+        self.pages[page as usize]
+    }
+
+    /// The number of free pages.
+    pub fn count(&self) -> u32
+        ensures { result ≡ count_of self.now }
+    {
+        self.free
+    }
+
+    /// Writes the bitmap of the free pages.
+    pub fn to_bits(&self, out: &mut [u8])
+        requires { 8 * length out.old ≡ length self.now }
+        ensures { out.new ≡ packed (length out.old) self.now }
+    {
+        pack(&self.pages, out);
+    }
+}
+
+#[cfg(test)]
+mod tests {
+    use super::*;
+    use std::test::Fail;
+
+    #[test]
+    fn a_grant_takes_the_lowest_best_block_and_a_give_merges(rt: HostRuntime) -> Result<(), Fail> {
+        let mut map = BuddyMap::new(rt.alloc(), 4)?;
+        assert_eq!(rt; map.grant(3), Some(0));
+        assert_eq!(rt; map.grant(1), Some(3));
+        assert_eq!(rt; map.grant(5), Some(8));
+        assert_eq!(rt; map.grant(3), Some(4));
+        assert_eq!(rt; map.grant(4), None);
+        assert_eq!(rt; map.largest(), Some(1));
+        map.give(0, 3);
+        assert_eq!(rt; map.largest(), Some(1));
+        map.give(3, 1);
+        assert_eq!(rt; map.largest(), Some(2));
+        assert_eq!(rt; map.count(), 8);
+        Ok(())
+    }
+
+    #[test]
+    fn a_bitmap_comes_back_as_it_was(rt: HostRuntime) -> Result<(), Fail> {
+        let map = BuddyMap::from_bits(rt.alloc(), 4, &[0x1f, 0x81])?;
+        let mut bits = [0; 2];
+        map.to_bits(&mut bits);
+        assert_eq!(rt; bits, [0x1f, 0x81]);
+        assert!(rt; map.is_free(3) && !map.is_free(2) && map.is_free(15));
+        assert_eq!(rt; map.count(), 7);
+        assert_eq!(rt; map.largest(), Some(2));
+        Ok(())
+    }
+}
