@@ -1,0 +1,9 @@
+pub mod Counts
+pub mod Deeds
+pub mod Endings
+pub mod First
+pub mod Kept
+pub mod Readings
+pub mod Steps
+pub mod Ties
+pub mod Viewed

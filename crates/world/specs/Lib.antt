@@ -1,0 +1,5 @@
+pub mod First
+pub mod Place
+pub mod Refused
+pub mod Served
+pub mod Ties
