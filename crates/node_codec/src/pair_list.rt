@@ -89,6 +89,18 @@ impl Pairs {
         self.list.push_reserved(pair);
     }
 
+    /// Takes on the pairs of a slice in place of its own. It takes no memory: there is room for them.
+    pub fn copy_from(&mut self, pairs: &[Pair])
+        requires { length pairs.now ≤ self.old.room }
+        ensures items { self.new.items ≡ pairs.now }
+        ensures room { self.new.room ≡ self.old.room }
+    {
+        self.clear();
+        for pair in pairs {
+            self.put(*pair);
+        }
+    }
+
     /// Puts a pair at the end. After a refusal the list is as before.
     pub fn push(&mut self, pair: Pair) -> Result<(), AllocError>
         ensures ok { OnOk result (self.new.items ≡ self.old.items ++ pair ∷ []) }

@@ -1,0 +1,27 @@
+-- What a cache keeps: nodes by their pages.
+use Rattle.std.specs.Prelude.{◌≡◌, ℕ, ◌≤◌, List, length, Option, IfSome, nat_eq}
+use Rattle.std.specs.Map.{lookup}
+use Rattle.node_codec.specs.declared.parsed.Node.{Node}
+
+-- nodes with their pages, and how many there may be. In which order they stand says nothing
+pub record KeptNodes : Type 0 where
+  pub entries : List (ℕ × Node)
+  pub capacity : ℕ
+
+-- the node that is kept for a page
+abbrev pub kept : KeptNodes → ℕ → Option Node
+kept c page = lookup (nat_eq page) c.entries
+
+-- the two are the same node, whatever room they have
+pub record IsNodeOf (a b : Node) : Type 0 where
+  pub level : a.level ≡ b.level
+  pub pairs : a.pairs.items ≡ b.pairs.items
+
+-- for each page the same node is kept, or none
+pub record KeepsSame (old new : KeptNodes) : Type 0 where
+  pub each : (page : ℕ) → kept new page ≡ kept old page
+  pub most : new.capacity ≡ old.capacity
+
+-- each node that is kept has so many pairs at most
+abbrev pub HaveAtMost : ℕ → KeptNodes → Type 0
+HaveAtMost most c = (page : ℕ) → IfSome (kept c page) (λ node. length node.pairs.items ≤ most)

@@ -1,0 +1,80 @@
+//! What a cache keeps, over more nodes than it has room for.
+
+ghost use Rattle.std.specs.Prelude.{◌≡◌, ◌≤◌, [], length};
+ghost use Rattle.page_cache.specs.Kept.{HaveAtMost};
+
+use crate::Cache;
+use node_codec::{Node, Pair};
+use std::alloc::Global;
+use std::process::Abort;
+
+/// A node of this level with one pair.
+fn one_pair(rt: &impl Abort, alloc: Global, level: u8) -> Node
+    ensures { length result.pairs.items ≡ 1 }
+{
+    let mut node = Node::prepared(alloc, 256).expect(rt, "room for a page");
+    node.level = level;
+    node.pairs.clear();
+    node.pairs
+        .push(Pair { bytes: 7, page: 9 })
+        .expect(rt, "room for a pair");
+    node
+}
+
+/// An empty cache.
+fn cache_of(rt: &impl Abort, alloc: Global, capacity: usize) -> Cache
+    ensures { HaveAtMost 1 result }
+{
+    Cache::new(alloc, capacity).expect(rt, "room for a cache")
+}
+
+/// Keeps a node with one pair.
+fn keep_one(cache: &mut Cache, page: u32, node: &Node)
+    requires small { HaveAtMost 1 cache.old }
+    requires one { length node.now.pairs.items ≡ 1 }
+    ensures { HaveAtMost 1 cache.new }
+{
+    cache.keep(page, node);
+}
+
+/// The level of the node that is kept for a page, or 0.
+fn level_kept(rt: &impl Abort, alloc: Global, cache: &mut Cache, page: u32) -> u8
+    requires { HaveAtMost 1 cache.old }
+    ensures { HaveAtMost 1 cache.new }
+{
+    let mut into = Node::prepared(alloc, 256).expect(rt, "room for a page");
+    if cache.get(page, &mut into) {
+        into.level
+    } else {
+        0
+    }
+}
+
+#[test]
+fn the_nodes_used_last_are_kept(rt: HostRuntime) {
+    let mut cache = cache_of(&rt, rt.alloc(), 2);
+    keep_one(&mut cache, 1, &one_pair(&rt, rt.alloc(), 1));
+    keep_one(&mut cache, 2, &one_pair(&rt, rt.alloc(), 2));
+    assert_eq!(rt; level_kept(&rt, rt.alloc(), &mut cache, 1), 1);
+    keep_one(&mut cache, 3, &one_pair(&rt, rt.alloc(), 3));
+    assert_eq!(rt; level_kept(&rt, rt.alloc(), &mut cache, 1), 1);
+    assert_eq!(rt; level_kept(&rt, rt.alloc(), &mut cache, 2), 0);
+    assert_eq!(rt; level_kept(&rt, rt.alloc(), &mut cache, 3), 3);
+}
+
+#[test]
+fn a_forgotten_page_has_no_node(rt: HostRuntime) {
+    let mut cache = cache_of(&rt, rt.alloc(), 2);
+    keep_one(&mut cache, 5, &one_pair(&rt, rt.alloc(), 5));
+    assert_eq!(rt; level_kept(&rt, rt.alloc(), &mut cache, 5), 5);
+    cache.forget(5);
+    let mut into = one_pair(&rt, rt.alloc(), 1);
+    assert!(rt; !cache.get(5, &mut into));
+}
+
+#[test]
+fn a_cache_without_room_keeps_nothing(rt: HostRuntime) {
+    let mut cache = cache_of(&rt, rt.alloc(), 0);
+    keep_one(&mut cache, 5, &one_pair(&rt, rt.alloc(), 5));
+    assert_eq!(rt; level_kept(&rt, rt.alloc(), &mut cache, 5), 0);
+}
