@@ -52,6 +52,7 @@ pub trait Port: Drop + Send {
     /// Counts a fault of the device that a layer above found: a page that doesn't hold what was written
     /// to it. A port that tells its bytes is never at fault, and stays as it is.
     fn blame(&mut self)
+        ensures kept { (meter self.old).faults ≤ (meter self.new).faults }
         ensures faults { (IsTrue Self.S.tells → ⊥) → Rose (meter self.old).faults (meter self.new).faults }
         ensures told { IsTrue Self.S.tells → meter self.new ≡ meter self.old }
         ensures counts { meter self.new ≡ record (meter self.old) { faults = (meter self.new).faults } };
