@@ -1,0 +1,5 @@
+pub mod Failing
+pub mod Parts
+pub mod Reading
+pub mod Sent
+pub mod Words
