@@ -1,0 +1,6 @@
+pub mod Slotted
+pub mod LockedRuns
+pub mod Spaces
+pub mod Calls
+pub mod DirectoryPages
+pub mod Opened

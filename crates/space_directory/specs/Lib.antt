@@ -1,0 +1,4 @@
+pub mod Slots
+pub mod SpaceView
+pub mod Held
+pub mod Opening
