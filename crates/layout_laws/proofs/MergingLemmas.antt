@@ -14,12 +14,12 @@ test_cases false = inr refl
 
 -- two small neighbours are merged
 pack_from-merges : (size least : ℕ) (part next : Part) (rest : List Part) → (is_small size least part && is_small size least next) ≡ true →
-  pack_from size least part (next ∷ rest) ≡ pack_from size least (Make (part_bytes part + part_bytes next)) rest
+    pack_from size least part (next ∷ rest) ≡ pack_from size least (Make (part_bytes part + part_bytes next)) rest
 pack_from-merges size least part next rest both = rw (both, pack_from)
 
 -- others aren't
 pack_from-keeps : (size least : ℕ) (part next : Part) (rest : List Part) → (is_small size least part && is_small size least next) ≡ false →
-  pack_from size least part (next ∷ rest) ≡ part ∷ pack_from size least next rest
+    pack_from size least part (next ∷ rest) ≡ part ∷ pack_from size least next rest
 pack_from-keeps size least part next rest both = rw (both, pack_from)
 
 -- a + b taken with c, or a with the others
@@ -28,18 +28,18 @@ sum_moves a b c = omega arith
 
 -- the bytes are kept
 pub pack_from-bytes : (size least : ℕ) (part : Part) (rest : List Part) →
-  parts_bytes (pack_from size least part rest) ≡ part_bytes part + parts_bytes rest
+    parts_bytes (pack_from size least part rest) ≡ part_bytes part + parts_bytes rest
 pack_from-bytes size least part [] = refl
 pack_from-bytes size least part (next ∷ rest) =
     elim (test_cases (is_small size least part && is_small size least next)) [
-      inl both ↦
-        let merged = pack_from-merges size least part next rest both in
-        let more = pack_from-bytes size least (Make (part_bytes part + part_bytes next)) rest in
-        ap parts_bytes merged ∙ (more ∙ sum_moves (part_bytes part) (part_bytes next) (parts_bytes rest))
-    | inr both ↦
-        let kept = pack_from-keeps size least part next rest both in
-        let more = pack_from-bytes size least next rest in
-        ap parts_bytes kept ∙ ap (λ n. part_bytes part + n) more
+      | inl both ↦
+          let merged = pack_from-merges size least part next rest both in
+          let more = pack_from-bytes size least (Make (part_bytes part + part_bytes next)) rest in
+          ap parts_bytes merged ∙ (more ∙ sum_moves (part_bytes part) (part_bytes next) (parts_bytes rest))
+      | inr both ↦
+          let kept = pack_from-keeps size least part next rest both in
+          let more = pack_from-bytes size least next rest in
+          ap parts_bytes kept ∙ ap (λ n. part_bytes part + n) more
     ]
 
 pub pack-bytes : (size least : ℕ) (parts : List Part) → parts_bytes (pack size least parts) ≡ parts_bytes parts
@@ -48,7 +48,7 @@ pack-bytes size least (part ∷ rest) = pack_from-bytes size least part rest
 
 -- a large part stays in front
 pack_from-large : (size least : ℕ) (part : Part) (rest : List Part) → is_small size least part ≡ false →
-  (tail : List Part) × (pack_from size least part rest ≡ part ∷ tail)
+    (tail : List Part) × (pack_from size least part rest ≡ part ∷ tail)
 pack_from-large size least part [] large = ([], refl)
 pack_from-large size least part (next ∷ rest) large =
     let both : (is_small size least part && is_small size least next) ≡ false = ap (λ b. b && is_small size least next) large in
@@ -56,7 +56,7 @@ pack_from-large size least part (next ∷ rest) large =
 
 -- a large part may stand before any
 apart-large : (size least : ℕ) (part : Part) (parts : List Part) → is_small size least part ≡ false →
-  AreApart size least parts → AreApart size least (part ∷ parts)
+    AreApart size least parts → AreApart size least (part ∷ parts)
 apart-large size least part [] large apart = tt
 apart-large size least part (next ∷ rest) large apart = (ap (λ b. b && is_small size least next) large, apart)
 
@@ -69,19 +69,19 @@ pub pack_from-apart : (size least : ℕ) (part : Part) (rest : List Part) → Ar
 pack_from-apart size least part [] = tt
 pack_from-apart size least part (next ∷ rest) =
     elim (test_cases (is_small size least part && is_small size least next)) [
-      inl both ↦
-        subst (AreApart size least) (sym (pack_from-merges size least part next rest both))
+      | inl both ↦
+          subst (AreApart size least) (sym (pack_from-merges size least part next rest both))
           (pack_from-apart size least (Make (part_bytes part + part_bytes next)) rest)
-    | inr both ↦
-        subst (AreApart size least) (sym (pack_from-keeps size least part next rest both))
+      | inr both ↦
+          subst (AreApart size least) (sym (pack_from-keeps size least part next rest both))
           (elim (test_cases (is_small size least part)) [
-            inr large ↦ apart-large size least part (pack_from size least next rest) large (pack_from-apart size least next rest)
-          | inl small ↦
-              let large = large-next (is_small size least part) (is_small size least next) small both in
-              let front = pack_from-large size least next rest large in
-              let apart : AreApart size least (next ∷ front.0) = subst (AreApart size least) front.1 (pack_from-apart size least next rest) in
-              let P : List Part → Type 0 = λ parts. AreApart size least (part ∷ parts) in
-              subst P (sym front.1) (both, apart)
+            | inr large ↦ apart-large size least part (pack_from size least next rest) large (pack_from-apart size least next rest)
+            | inl small ↦
+                let large = large-next (is_small size least part) (is_small size least next) small both in
+                let front = pack_from-large size least next rest large in
+                let apart : AreApart size least (next ∷ front.0) = subst (AreApart size least) front.1 (pack_from-apart size least next rest) in
+                let P : List Part → Type 0 = λ parts. AreApart size least (part ∷ parts) in
+                subst P (sym front.1) (both, apart)
           ])
     ]
 

@@ -19,12 +19,12 @@ sum_split f g h e (x ∷ xs) =
 
 -- the working uses of a page, by segments with spares and by nodes
 pub working_split : (n : Numbers) (page : ℕ) (moment : Moment) →
-  sum_by (λ (slot : Slot). segment_uses n page slot.working + spare_uses page slot.spare) moment
+    sum_by (λ (slot : Slot). segment_uses n page slot.working + spare_uses page slot.spare) moment
     + sum_by (λ (slot : Slot). node_uses page slot.working) moment
-  ≡ sum_by (working_uses n page) moment
+    ≡ sum_by (working_uses n page) moment
 working_split n page moment =
     sum_split (λ (slot : Slot). segment_uses n page slot.working + spare_uses page slot.spare)
-      (λ (slot : Slot). node_uses page slot.working) (working_uses n page) (λ slot. omega arith) moment
+    (λ (slot : Slot). node_uses page slot.working) (working_uses n page) (λ slot. omega arith) moment
 
 -- a counted test as a choice
 count-choice : (bit : Bool) → count_true bit ≡ cond bit 1 0
@@ -33,19 +33,19 @@ count-choice false = refl
 
 -- the counts of the four roles
 roles_choose : (committed segments nodes working : ℕ) → segments + nodes ≡ working → working ≤ 1 →
-  cond (nat_eq committed 0 && nat_eq working 0) 1 0 + cond (nat_lt 0 committed && nat_eq working 0) 1 0 + segments + nodes ≡ 1
+    cond (nat_eq committed 0 && nat_eq working 0) 1 0 + cond (nat_lt 0 committed && nat_eq working 0) 1 0 + segments + nodes ≡ 1
 roles_choose committed segments nodes working adds once = grind (arith, nat_tests)
 
 pub roles_add : (committed segments nodes working : ℕ) → segments + nodes ≡ working → working ≤ 1 →
-  count_true (nat_eq committed 0 && nat_eq working 0) + count_true (nat_lt 0 committed && nat_eq working 0) + segments + nodes ≡ 1
+    count_true (nat_eq committed 0 && nat_eq working 0) + count_true (nat_lt 0 committed && nat_eq working 0) + segments + nodes ≡ 1
 roles_add committed segments nodes working adds once =
     rw (count-choice (nat_eq committed 0 && nat_eq working 0), count-choice (nat_lt 0 committed && nat_eq working 0))
-      (roles_choose committed segments nodes working adds once)
+    (roles_choose committed segments nodes working adds once)
 
 -- in a sound moment each page has one role
 pub sound_one_role : (n : Numbers) (held : ℕ → Bool) (moment : Moment) → IsSound n held moment → (page : ℕ) → HasOneRole n page moment
 sound_one_role n held moment sound page =
     roles_add (all_committed n page moment)
-      (sum_by (λ (slot : Slot). segment_uses n page slot.working + spare_uses page slot.spare) moment)
-      (sum_by (λ (slot : Slot). node_uses page slot.working) moment)
-      (all_working n page moment) (working_split n page moment) (sound.working_once page)
+    (sum_by (λ (slot : Slot). segment_uses n page slot.working + spare_uses page slot.spare) moment)
+    (sum_by (λ (slot : Slot). node_uses page slot.working) moment)
+    (all_working n page moment) (working_split n page moment) (sound.working_once page)

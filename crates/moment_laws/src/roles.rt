@@ -8,5 +8,4 @@ ghost use Rattle.moment_model.specs.Moment.{Moment, IsSound, HasOneRole};
 /// one node page of a working version, and only one of these.
 pub fn one_role()
     ensures { (n : Numbers) (held : ℕ → Bool) (moment : Moment) → IsSound n held moment → (page : ℕ) → HasOneRole n page moment }
-{
-}
+{}
