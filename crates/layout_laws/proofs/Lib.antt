@@ -1,2 +1,3 @@
 pub mod MergingLemmas
 pub mod HalvingLemmas
+pub mod LevelLemmas

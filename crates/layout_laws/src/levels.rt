@@ -1,0 +1,21 @@
+//! Laws on the new levels of a tree.
+
+ghost use Rattle.std.specs.Prelude.{◌≡◌, ℕ, ◌+◌, ◌<◌, ◌≤◌, List, ◌++◌, length, take, drop};
+ghost use Rattle.tree_model.specs.declared.entry.Pair.{Pair};
+ghost use Rattle.layout_model.specs.Levels.{PageNode, pairs_of, entries_of, level_after, spliced, nodes_of};
+
+/// A level after an exchange has the list splice of the pairs that it had.
+pub fn a_level_is_spliced()
+    ensures { (f : ℕ) (nodes : List PageNode) (from count : ℕ) (fresh : List Pair) (pages : List ℕ) →
+        0 < f → from + count ≤ length (pairs_of nodes) →
+        pairs_of (level_after f nodes from count fresh pages).nodes
+        ≡ take from (pairs_of nodes) ++ (fresh ++ drop (from + count) (pairs_of nodes)) }
+{}
+
+/// The entries of the new tree are the list splice of the entries of the old one.
+pub fn entries_are_spliced()
+    ensures { (f : ℕ) (levels : List (List PageNode)) (from count : ℕ) (fresh : List Pair) (pages : List ℕ) →
+        0 < f → from + count ≤ length (entries_of levels) →
+        entries_of (nodes_of (spliced f levels from count fresh pages))
+        ≡ take from (entries_of levels) ++ (fresh ++ drop (from + count) (entries_of levels)) }
+{}
