@@ -7,6 +7,7 @@
 
 mod bay;
 mod fail_at;
+mod geometry;
 mod mem_bay;
 mod mem_port;
 mod mem_span;
@@ -14,9 +15,12 @@ mod page_list;
 mod port;
 mod schedule;
 mod span;
+#[cfg(test)]
+mod tests;
 
 pub use bay::{Bay, BayFail};
 pub use fail_at::FailAt;
+pub use geometry::Geometry;
 pub use mem_bay::MemBay;
 pub use mem_port::MemPort;
 pub use mem_span::MemSpan;

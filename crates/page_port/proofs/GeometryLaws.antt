@@ -1,0 +1,46 @@
+-- How large the numbers of a store get.
+use Rattle.std.proofs.Common.{◌≡◌, ℕ, ◌+◌, ◌-◌, ◌*◌, ◌/◌, ◌%◌, ◌^◌, ◌<◌, ◌≤◌, List, Option, Some, None, inl, inr, arith, mul-le-mul_right, ap, sym, ◌∙◌, ◌&&◌, nat_le, nat_lt}
+use Rattle.std.proofs.Math.Pow.{pow_mono}
+use Rattle.std.proofs.lemmas.Bool.Decides.{leb_tells, nat_tests}
+use Rattle.std.proofs.lemmas.Nat.{mul-le, div_below}
+use Rattle.geometry_model.specs.Numbers.{Numbers, IsInRange, space_pages, pages}
+use Rattle.geometry_model.specs.Pages.{place, directory_page}
+use Rattle.geometry_model.proofs.PageLaws.{place-catalog}
+use Rattle.geometry_model.proofs.NumberLaws.{page_size-high, space_pages-high}
+
+-- a space whose bitmap takes at most half of a page has an order of at most 14
+pub order-at_most : (order page : ℕ) → 2 ^ order ≤ 4 * page → page ≤ 4096 → order ≤ 14
+order-at_most order page fits small =
+    elim (leb_tells order 14) as (λ _. order ≤ 14) [
+      | inl low ↦ low.1
+      | inr high ↦ absurd (let over : 15 ≤ order = omega (arith, high.1) in
+          let more : 2 ^ 15 ≤ 2 ^ order = pow_mono over in omega (arith, more))
+    ]
+
+pub order-high : (n : Numbers) → IsInRange n → n.order ≤ 14
+order-high n h = order-at_most n.order n.page h.order_high (page_size-high n.page h.page_size)
+
+-- the number of a directory page fits 32 bits, for each number of a space in 16 bits
+pub directory_page-fits : (n : Numbers) (s : ℕ) → IsInRange n → s < 2 ^ 16 → s * (1 + space_pages n) ≤ 65535 * 16385
+directory_page-fits n s h low = mul-le s (1 + space_pages n) 65535 16385 (omega arith) (omega (arith, space_pages-high n h))
+
+pub spaces-fit : (n : Numbers) → IsInRange n → n.spaces * (1 + space_pages n) ≤ 256 * 16385
+spaces-fit n h = mul-le n.spaces (1 + space_pages n) 256 16385 h.spaces_high (omega (arith, space_pages-high n h))
+
+pub catalog-fits : (n : Numbers) → IsInRange n → n.catalog * n.page ≤ 16 * 4096
+catalog-fits n h = mul-le n.catalog n.page 16 4096 h.catalog_high (page_size-high n.page h.page_size)
+
+-- a page at the head of a space's row is its directory, and no data page
+pub place-head : (n : Numbers) (page : ℕ) → (page - (1 + n.catalog)) % (1 + space_pages n) ≡ 0 → place n page ≡ None
+unfolding place
+place-head n page h = grind (arith, nat_tests, h)
+
+-- the space and the place of a page behind it
+pub place-behind : (n : Numbers) (page : ℕ) → 1 + n.catalog ≤ page → page < pages n →
+    0 < (page - (1 + n.catalog)) % (1 + space_pages n) →
+    place n page ≡ Some ((page - (1 + n.catalog)) / (1 + space_pages n), (page - (1 + n.catalog)) % (1 + space_pages n) - 1)
+unfolding place
+place-behind n page low high more = grind (arith, nat_tests)
+
+pub place-before : (n : Numbers) (page : ℕ) → page < 1 + n.catalog → place n page ≡ None
+place-before n page h = place-catalog n page (omega arith)
