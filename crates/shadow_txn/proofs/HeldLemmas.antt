@@ -1,0 +1,244 @@
+-- Held objects by number and by place.
+use Rattle.std.proofs.Common.{◌≡◌, ◌≢◌, ℕ, zero, suc, ◌+◌, ◌<◌, List, [], ◌∷◌, ◌++◌, length, take, drop, Bool, true, false, refl, ap, sym, ◌∙◌, subst, eq-eqb, inl, inr, arith, slice_get, slice_set, slice_index_or, nat_eq, Option, Some, None, if◌then◌else◌}
+use Rattle.std.specs.Prelude.{remove, ◌==◌, ◌⊎◌, All, Result, Ok, Err, IfOk, OnErr}
+use Rattle.std.proofs.lemmas.Bool.{ne_eqb, eqb-true}
+use Rattle.std.proofs.lemmas.List.{take_more, set-get_or}
+use Rattle.std.proofs.lemmas.Option.{slice_get_read}
+use Rattle.std.proofs.lemmas.List.Elements.{All-nil, All-cons}
+use Rattle.shadow_txn.specs.declared.held.Held.{Held}
+use Rattle.shadow_txn.specs.Held.{object_in, with_object, without, IsPlace, AreDistinct}
+
+-- what a search that passes its first item finds is what it finds behind it
+past_head : {T : Type 0} (b : Bool) (x : T) (r s t : Option T) → (r ≡ None → s ≡ t) → (if b then Some x else r) ≡ None → (if b then Some x else s) ≡ t
+past_head true x r s t rest none = absurd cc
+past_head false x r s t rest none = rest none
+
+head_passed : {T : Type 0} (b : Bool) (x : T) (r : Option T) → (if b then Some x else r) ≡ None → b ≡ false
+head_passed true x r none = absurd cc
+head_passed false x r none = refl
+
+tail_passed : {T : Type 0} (b : Bool) (x : T) (r : Option T) → (if b then Some x else r) ≡ None → r ≡ None
+tail_passed true x r none = absurd cc
+tail_passed false x r none = none
+
+-- what is not in the front is found in the back
+pub object_in-append : {T : Type 0} (o : ℕ) (xs ys : List (Held T)) → object_in o xs ≡ None → object_in o (xs ++ ys) ≡ object_in o ys
+object_in-append o [] ys none = refl
+object_in-append o (h ∷ xs) ys none =
+    past_head (h.number == o) h.object (object_in o xs) (object_in o (xs ++ ys)) (object_in o ys) (object_in-append o xs ys) none
+
+pub object_in-one : {T : Type 0} (o : ℕ) (h : Held T) → h.number ≢ o → object_in o (h ∷ []) ≡ None
+object_in-one o h other = let e : nat_eq h.number o ≡ false = ne_eqb h.number o other in rw e refl
+
+-- the object at its place
+pub object_in-place : {T : Type 0} (held : List (Held T)) (o i : ℕ) (h : Held T)
+    → slice_get held i ≡ Some h → h.number ≡ o → object_in o (take i held) ≡ None → object_in o held ≡ Some h.object
+object_in-place [] o i h found same first = absurd cc
+object_in-place (k ∷ held) o zero h found same first =
+    let e : k ≡ h = cc in
+    let n : nat_eq k.number o ≡ true = eq-eqb k.number o (ap (λ (u : Held _). u.number) e ∙ same) in
+    rw n (ap (λ (u : Held _). Some u.object) e)
+object_in-place (k ∷ held) o (suc i) h found same first =
+    past_head (k.number == o) k.object (object_in o (take i held)) (object_in o held) (Some h.object)
+    (object_in-place held o i h found same) first
+
+-- one item more that isn't it
+pub object_in-more : {T : Type 0} (xs : List (Held T)) (i o : ℕ) (h : Held T)
+    → i < length xs → h ≡ slice_index_or xs i h → object_in o (take i xs) ≡ None → h.number ≢ o → object_in o (take (i + 1) xs) ≡ None
+object_in-more xs i o h within is none other =
+    ap (object_in o) (take_more xs i h within ∙ ap (λ y. take i xs ++ y ∷ []) (sym is))
+    ∙ object_in-append o (take i xs) (h ∷ []) none ∙ object_in-one o h other
+
+-- another value of an object, by place
+pub with_object-place : {T : Type 0} (held : List (Held T)) (o i : ℕ) (h : Held T) (x : T)
+    → slice_get held i ≡ Some h → h.number ≡ o → object_in o (take i held) ≡ None
+    → with_object o x held ≡ slice_set held i (record { number = h.number; object = x })
+with_object-place [] o i h x found same first = absurd cc
+with_object-place (k ∷ held) o zero h x found same first =
+    let e : k ≡ h = cc in
+    let n : nat_eq k.number o ≡ true = eq-eqb k.number o (ap (λ (u : Held _). u.number) e ∙ same) in
+    rw n (ap (λ (u : Held _). record { number = u.number; object = x } ∷ held) e)
+with_object-place (k ∷ held) o (suc i) h x found same first =
+    let n : nat_eq k.number o ≡ false = head_passed (k.number == o) k.object _ first in
+    rw n (ap (λ hs. k ∷ hs) (with_object-place held o i h x found same (tail_passed (k.number == o) k.object _ first)))
+
+-- no object, by place
+pub without-place : {T : Type 0} (held : List (Held T)) (o i : ℕ) (h : Held T)
+    → slice_get held i ≡ Some h → h.number ≡ o → object_in o (take i held) ≡ None → without o held ≡ remove held i
+without-place [] o i h found same first = absurd cc
+without-place (k ∷ held) o zero h found same first =
+    let e : k ≡ h = cc in
+    let n : nat_eq k.number o ≡ true = eq-eqb k.number o (ap (λ (u : Held _). u.number) e ∙ same) in
+    rw n refl
+without-place (k ∷ held) o (suc i) h found same first =
+    let n : nat_eq k.number o ≡ false = head_passed (k.number == o) k.object _ first in
+    rw n (ap (λ hs. k ∷ hs) (without-place held o i h found same (tail_passed (k.number == o) k.object _ first)))
+
+found_past : {T : Type 0} (b : Bool) (x y : T) (r s : Option T) → (r ≡ Some y → s ≡ Some y) → (if b then Some x else r) ≡ Some y → (if b then Some x else s) ≡ Some y
+found_past true x y r s rest found = found
+found_past false x y r s rest found = rest found
+
+-- what is in the front stays what is found
+pub object_in-append_some : {T : Type 0} (o : ℕ) (xs ys : List (Held T)) (y : T) → object_in o xs ≡ Some y → object_in o (xs ++ ys) ≡ Some y
+object_in-append_some o [] ys y found = absurd cc
+object_in-append_some o (h ∷ xs) ys y found =
+    found_past (h.number == o) h.object y (object_in o xs) (object_in o (xs ++ ys)) (object_in-append_some o xs ys y) found
+
+found_one : {T : Type 0} (b : Bool) (x y : T) → (if b then Some x else None) ≡ Some y → (b ≡ true) × (x ≡ y)
+found_one true x y found = (refl, cc)
+found_one false x y found = absurd cc
+
+-- an object that is held after one more was taken: it was held before, or is the one that was taken
+pub object_in-push : {T : Type 0} (o : ℕ) (held : List (Held T)) (h : Held T) (x : T) (before : Option T)
+    → object_in o held ≡ before → object_in o (held ++ h ∷ []) ≡ Some x
+    → (object_in o held ≡ Some x) ⊎ ((object_in o held ≡ None) × (h.number ≡ o) × (h.object ≡ x))
+object_in-push o held h x (Some y) was found =
+    let same : y ≡ x = let e = object_in-append_some o held (h ∷ []) y was in cc in
+    inl (was ∙ ap Some same)
+object_in-push o held h x None was found =
+    let one = found_one (h.number == o) h.object x (sym (object_in-append o held (h ∷ []) was) ∙ found) in
+    inr (was, eqb-true h.number o one.0, one.1)
+
+-- an object that isn't held after one more was taken
+pub object_in-push_none : {T : Type 0} (o : ℕ) (held : List (Held T)) (h : Held T) (before : Option T)
+    → object_in o held ≡ before → object_in o (held ++ h ∷ []) ≡ None → (object_in o held ≡ None) × (o ≢ h.number)
+object_in-push_none o held h (Some y) was none = let e = object_in-append_some o held (h ∷ []) y was in absurd cc
+object_in-push_none o held h None was none =
+    let last : object_in o (h ∷ []) ≡ None = sym (object_in-append o held (h ∷ []) was) ∙ none in
+    let other : nat_eq h.number o ≡ false = head_passed (h.number == o) h.object None last in
+    (was, λ e. let same : nat_eq h.number o ≡ true = eq-eqb h.number o (sym e) in cc)
+
+-- one more object that wasn't held
+pub AreDistinct-push : {T : Type 0} (held : List (Held T)) (h : Held T) → AreDistinct held → object_in h.number held ≡ None → AreDistinct (held ++ h ∷ [])
+AreDistinct-push [] h apart none = (refl, tt)
+AreDistinct-push (k ∷ held) h apart none =
+    let other : nat_eq k.number h.number ≡ false = head_passed (k.number == h.number) k.object _ none in
+    let differs : h.number ≢ k.number = λ e. let same : nat_eq k.number h.number ≡ true = eq-eqb k.number h.number (sym e) in cc in (
+      object_in-append k.number held (h ∷ []) apart.0 ∙ object_in-one k.number h differs,
+      AreDistinct-push held h apart.1 (tail_passed (k.number == h.number) k.object _ none),
+    )
+
+-- the last one of distinct objects
+pub AreDistinct-pop : {T : Type 0} (held : List (Held T)) (h : Held T) → AreDistinct (held ++ h ∷ []) → AreDistinct held × (object_in h.number held ≡ None)
+AreDistinct-pop [] h apart = (tt, refl)
+AreDistinct-pop (k ∷ held) h apart =
+    let rest = AreDistinct-pop held h apart.1 in
+    let front = object_in-push_none k.number held h (object_in k.number held) refl apart.0 in
+    let other : nat_eq k.number h.number ≡ false = ne_eqb k.number h.number front.1 in
+    ((front.0, rest.0), rw other rest.1)
+
+at_place : {T : Type 0} (held : List (Held T)) (o i : ℕ) (h : Held T) → IsPlace held o i → h ≡ slice_index_or held i h → (slice_get held i ≡ Some h) × (h.number ≡ o)
+at_place held o i h place is =
+    let found : slice_get held i ≡ Some h = slice_get_read held _ i h refl place.within is in
+    (found, place.number h found)
+
+-- the object that is read at its place
+pub object_in-at : {T : Type 0} (held : List (Held T)) (o i : ℕ) (h : Held T) → IsPlace held o i → h ≡ slice_index_or held i h → object_in o held ≡ Some h.object
+object_in-at held o i h place is =
+    let at = at_place held o i h place is in object_in-place held o i h at.0 at.1 place.first
+
+-- a write at its place
+pub with_object-at : {T : Type 0} (held : List (Held T)) (o i : ℕ) (h : Held T) (x : T)
+    → IsPlace held o i → h ≡ slice_index_or held i h → slice_set held i (record { number = h.number; object = x }) ≡ with_object o x held
+with_object-at held o i h x place is =
+    let at = at_place held o i h place is in sym (with_object-place held o i h x at.0 at.1 place.first)
+
+-- a removal at its place
+pub without-at : {T : Type 0} (held : List (Held T)) (o i : ℕ) (h : Held T) → IsPlace held o i → h ≡ slice_index_or held i h → remove held i ≡ without o held
+without-at held o i h place is =
+    let at = at_place held o i h place is in sym (without-place held o i h at.0 at.1 place.first)
+
+changed_none : {T : Type 0} (b : Bool) (q : ℕ) (k : Held T) (x : T) (held changed : List (Held T))
+    → object_in q (k ∷ held) ≡ None → object_in q changed ≡ None
+    → object_in q (if b then record { number = k.number; object = x } ∷ held else k ∷ changed) ≡ None
+changed_none true q k x held changed none rest =
+    let other : nat_eq k.number q ≡ false = head_passed (k.number == q) k.object _ none in
+    rw other (tail_passed (k.number == q) k.object _ none)
+changed_none false q k x held changed none rest =
+    let other : nat_eq k.number q ≡ false = head_passed (k.number == q) k.object _ none in rw other rest
+
+pub object_in-with_object_none : {T : Type 0} (o q : ℕ) (x : T) (held : List (Held T)) → object_in q held ≡ None → object_in q (with_object o x held) ≡ None
+object_in-with_object_none o q x [] none = refl
+object_in-with_object_none o q x (k ∷ held) none =
+    changed_none (k.number == o) q k x held (with_object o x held) none
+    (object_in-with_object_none o q x held (tail_passed (k.number == q) k.object _ none))
+
+distinct_changed : {T : Type 0} (b : Bool) (k : Held T) (x : T) (held changed : List (Held T))
+    → object_in k.number held ≡ None → AreDistinct held → object_in k.number changed ≡ None → AreDistinct changed
+    → AreDistinct (if b then record { number = k.number; object = x } ∷ held else k ∷ changed)
+distinct_changed true k x held changed none apart rest others = (none, apart)
+distinct_changed false k x held changed none apart rest others = (rest, others)
+
+-- another value of an object is held under the same number
+pub AreDistinct-with_object : {T : Type 0} (o : ℕ) (x : T) (held : List (Held T)) → AreDistinct held → AreDistinct (with_object o x held)
+AreDistinct-with_object o x [] apart = tt
+AreDistinct-with_object o x (k ∷ held) apart =
+    distinct_changed (k.number == o) k x held (with_object o x held) apart.0 apart.1
+    (object_in-with_object_none o k.number x held apart.0) (AreDistinct-with_object o x held apart.1)
+
+-- a write of what stands there
+pub set-same : {T : Type 0} (held : List (Held T)) (i : ℕ) (h : Held T) → h ≡ slice_index_or held i h → slice_set held i (record { number = h.number; object = h.object }) ≡ held
+set-same held i h is = ap (λ k. slice_set held i k) is ∙ set-get_or held i h
+
+-- what an answer says goes over to what follows from it
+pub if_ok : {A E : Type 0} {P Q : A → Type 0} (r : Result A E) → ((a : A) → P a → Q a) → IfOk r P → IfOk r Q
+if_ok (Ok a) step fact = step a fact
+if_ok (Err e) step fact = tt
+
+pub on_err : {A E P Q : Type 0} (r : Result A E) → (P → Q) → OnErr r P → OnErr r Q
+on_err (Ok a) step fact = tt
+on_err (Err e) step fact = step fact
+
+pub object_in-self : {T : Type 0} (h : Held T) → object_in h.number (h ∷ []) ≡ Some h.object
+object_in-self h = let same : nat_eq h.number h.number ≡ true = eq-eqb h.number h.number refl in rw same refl
+
+-- none of them has this number
+pub none-All : {T : Type 0} (n : ℕ) (held : List (Held T)) → object_in n held ≡ None → All (λ (h : Held T). h.number ≢ n) held
+none-All n [] none = All-nil (λ (h : Held _). h.number ≢ n)
+none-All n (k ∷ held) none =
+    let other : nat_eq k.number n ≡ false = head_passed (k.number == n) k.object _ none in
+    All-cons (λ (h : Held _). h.number ≢ n) k held (λ e. let same : nat_eq k.number n ≡ true = eq-eqb k.number n e in cc)
+    (none-All n held (tail_passed (k.number == n) k.object _ none))
+
+with_here : {T : Type 0} (c : Bool) (q o : ℕ) (x y z : T) (s : Option T) → (c ≡ true → q ≡ o)
+    → (if c then Some y else s) ≡ Some z → ((q ≡ o) × (z ≡ y)) ⊎ ((if c then Some x else s) ≡ Some z)
+with_here true q o x y z s at found = inl (at refl, cc)
+with_here false q o x y z s at found = inr found
+
+with_later : {T : Type 0} (c : Bool) (q o : ℕ) (x y z : T) (r s : Option T) → (r ≡ Some z → ((q ≡ o) × (z ≡ y)) ⊎ (s ≡ Some z))
+    → (if c then Some x else r) ≡ Some z → ((q ≡ o) × (z ≡ y)) ⊎ ((if c then Some x else s) ≡ Some z)
+with_later true q o x y z r s later found = inr found
+with_later false q o x y z r s later found = later found
+
+with_cases : {T : Type 0} (b : Bool) (k : Held T) (q o : ℕ) (y z : T) (held changed : List (Held T)) → (b ≡ true → k.number ≡ o)
+    → (object_in q changed ≡ Some z → ((q ≡ o) × (z ≡ y)) ⊎ (object_in q held ≡ Some z))
+    → object_in q (if b then record { number = k.number; object = y } ∷ held else k ∷ changed) ≡ Some z
+    → ((q ≡ o) × (z ≡ y)) ⊎ (object_in q (k ∷ held) ≡ Some z)
+with_cases true k q o y z held changed at later found =
+    with_here (k.number == q) q o k.object y z (object_in q held) (λ c. sym (eqb-true k.number q c) ∙ at refl) found
+with_cases false k q o y z held changed at later found =
+    with_later (k.number == q) q o k.object y z (object_in q changed) (object_in q held) later found
+
+-- an object that is held after a change of o: it is o with its new value, or was held before
+pub object_in-with_object : {T : Type 0} (o q : ℕ) (y z : T) (held : List (Held T))
+    → object_in q (with_object o y held) ≡ Some z → ((q ≡ o) × (z ≡ y)) ⊎ (object_in q held ≡ Some z)
+object_in-with_object o q y z [] found = absurd cc
+object_in-with_object o q y z (k ∷ held) found =
+    with_cases (k.number == o) k q o y z held (with_object o y held) (eqb-true k.number o)
+    (object_in-with_object o q y z held) found
+
+none_here : {T : Type 0} (c : Bool) (x y : T) (s : Option T) → (if c then Some y else s) ≡ None → (if c then Some x else s) ≡ None
+none_here true x y s none = absurd cc
+none_here false x y s none = none
+
+none_cases : {T : Type 0} (b : Bool) (k : Held T) (q : ℕ) (y : T) (held changed : List (Held T))
+    → (object_in q changed ≡ None → object_in q held ≡ None)
+    → object_in q (if b then record { number = k.number; object = y } ∷ held else k ∷ changed) ≡ None → object_in q (k ∷ held) ≡ None
+none_cases true k q y held changed later none = none_here (k.number == q) k.object y (object_in q held) none
+none_cases false k q y held changed later none = past_head (k.number == q) k.object (object_in q changed) (object_in q held) None later none
+
+-- what isn't held after a change wasn't held before
+pub object_in-none_before : {T : Type 0} (o q : ℕ) (y : T) (held : List (Held T)) → object_in q (with_object o y held) ≡ None → object_in q held ≡ None
+object_in-none_before o q y [] none = none
+object_in-none_before o q y (k ∷ held) none =
+    none_cases (k.number == o) k q y held (with_object o y held) (object_in-none_before o q y held) none

@@ -1,0 +1,5 @@
+mod EndingLemmas
+mod HalfwayLemmas
+mod HeldLemmas
+mod ServingLemmas
+mod TakingLemmas

@@ -1,0 +1,144 @@
+//! The end of a transaction.
+
+ghost use Rattle.std.specs.Prelude.{◌≡◌, ◌+◌, ◌<◌, ◌≤◌, ◌^◌, max, [], true, false, Some, None, All, vec_capacity};
+ghost use Rattle.object_locks.specs.Shelving.{Terms};
+ghost use Rattle.shadow_txn.specs.Ending.{HasEnded, IsEnding};
+ghost use Rattle.shadow_txn.specs.Held.{object_in, AreDistinct};
+ghost use Rattle.shadow_txn.specs.Serving.{Serves};
+ghost use Rattle.shadow_txn.specs.Transaction.{ended, end_stamp, greatest_last};
+
+use crate::{Held, PlainObject, Txn};
+use eos_ops::{Acts, Annals, End};
+use object_locks::Shelf;
+use std::alloc::Global;
+
+/// What the end of a transaction writes into the annals of each of its objects.
+#[derive(Clone, Copy)]
+struct Closing {
+    stamp: u64,
+    session: u32,
+    number: u64,
+    committed: bool,
+}
+
+impl<H: Annals> Txn<H> {
+    /// Ends the transaction, makes the working versions the committed ones, and puts all objects back. It gives the
+    /// stamp of the end, and takes no memory.
+    pub fn commit<X: Shelf<PlainObject<H>>>(&mut self, shelf: &mut X) -> u64
+        requires open { self.old.is_open ≡ true }
+        requires serves { Serves H.told H.last self.old (X.shelving shelf.old) }
+        requires terms { (t : Terms) × X.under shelf.old t × (t.frame ≡ []) }
+
+        // Annals that tell their ends want the acts of the transaction, which it doesn't keep.
+        requires untold { All (λ h. H.told h.object.annals ≡ None) self.old.held }
+        ensures stamp { result ≡ end_stamp (λ x. H.last x.annals) self.old }
+        ensures within { result ≤ 2 ^ 62 }
+        ensures txn { self.new ≡ ended self.old result }
+        ensures shelf { IsEnding (HasEnded H.told H.last result self.old.session self.old.number true) self.old.held (X.shelving shelf.old) (X.shelving shelf.new) }
+        ensures serves { Serves H.told H.last self.new (X.shelving shelf.new) }
+        ensures under { (t : Terms) → t.frame ≡ [] → X.under shelf.old t → X.under shelf.new t }
+    {
+        self.close(shelf, true)
+    }
+
+    /// Ends the transaction, forgets the working versions, and puts all objects back. It gives the stamp of the end,
+    /// and takes no memory.
+    pub fn abort<X: Shelf<PlainObject<H>>>(&mut self, shelf: &mut X) -> u64
+        requires open { self.old.is_open ≡ true }
+        requires serves { Serves H.told H.last self.old (X.shelving shelf.old) }
+        requires terms { (t : Terms) × X.under shelf.old t × (t.frame ≡ []) }
+        requires untold { All (λ h. H.told h.object.annals ≡ None) self.old.held }
+        ensures stamp { result ≡ end_stamp (λ x. H.last x.annals) self.old }
+        ensures within { result ≤ 2 ^ 62 }
+        ensures txn { self.new ≡ ended self.old result }
+        ensures shelf { IsEnding (HasEnded H.told H.last result self.old.session self.old.number false) self.old.held (X.shelving shelf.old) (X.shelving shelf.new) }
+        ensures serves { Serves H.told H.last self.new (X.shelving shelf.new) }
+        ensures under { (t : Terms) → t.frame ≡ [] → X.under shelf.old t → X.under shelf.new t }
+    {
+        self.close(shelf, false)
+    }
+
+    /// Ends the transaction.
+    fn close<X: Shelf<PlainObject<H>>>(&mut self, shelf: &mut X, committed: bool) -> u64
+        requires open { self.old.is_open ≡ true }
+        requires serves { Serves H.told H.last self.old (X.shelving shelf.old) }
+        requires terms { (t : Terms) × X.under shelf.old t × (t.frame ≡ []) }
+        requires untold { All (λ h. H.told h.object.annals ≡ None) self.old.held }
+        ensures stamp { result ≡ end_stamp (λ x. H.last x.annals) self.old }
+        ensures within { result ≤ 2 ^ 62 }
+        ensures txn { self.new ≡ ended self.old result }
+        ensures shelf { IsEnding (HasEnded H.told H.last result self.old.session self.old.number committed) self.old.held (X.shelving shelf.old) (X.shelving shelf.new) }
+        ensures serves { Serves H.told H.last self.new (X.shelving shelf.new) }
+        ensures under { (t : Terms) → t.frame ≡ [] → X.under shelf.old t → X.under shelf.new t }
+    {
+        let stamp = next_stamp(self.stamp, &self.held);
+        let closing = Closing {
+            stamp,
+            session: self.session,
+            number: self.number,
+            committed,
+        };
+        put_all(self.alloc, &mut self.held, shelf, closing);
+        self.active = false;
+        self.stamp = stamp;
+        stamp
+    }
+}
+
+/// One more than the last stamps of the session and of all objects.
+fn next_stamp<H: Annals>(own: u64, held: &[Held<PlainObject<H>>]) -> u64
+    requires own { own < 2 ^ 62 }
+    requires lasts { All (λ h. H.last h.object.annals < 2 ^ 62) held.now }
+    ensures stamp { result ≡ max own (greatest_last (λ x. H.last x.annals) held.now) + 1 }
+    ensures within { result ≤ 2 ^ 62 }
+{
+    let mut greatest = own;
+    for one in held {
+        greatest = greatest.max(one.object.annals.last_stamp());
+    }
+    greatest + 1
+}
+
+/// Puts all objects back, each with its end.
+fn put_all<H: Annals, X: Shelf<PlainObject<H>>>(
+    alloc: Global,
+    held: &mut Vec<Held<PlainObject<H>>>,
+    shelf: &mut X,
+    closing: Closing,
+)
+    requires within { closing.stamp ≤ 2 ^ 62 }
+    requires room { All (λ h. 1 ≤ H.spare h.object.annals) held.old.items }
+    requires lasts { All (λ h. H.last h.object.annals < closing.stamp) held.old.items }
+    requires untold { All (λ h. H.told h.object.annals ≡ None) held.old.items }
+    requires present { All (λ h. h.number < (X.shelving shelf.old).objects) held.old.items }
+    requires out { All (λ h. (X.shelving shelf.old).out h.number ≡ Some None) held.old.items }
+    requires distinct { AreDistinct held.old.items }
+    requires terms { (t : Terms) × X.under shelf.old t × (t.frame ≡ []) }
+    ensures none { held.new.items ≡ [] }
+    ensures capacity { vec_capacity held.new ≡ vec_capacity held.old }
+    ensures shelf { IsEnding (HasEnded H.told H.last closing.stamp closing.session closing.number closing.committed) held.old.items (X.shelving shelf.old) (X.shelving shelf.new) }
+    ensures under { (t : Terms) → t.frame ≡ [] → X.under shelf.old t → X.under shelf.new t }
+{
+    'puts: while let Some(one) = held.pop() {
+        let Held { number, mut object } = one;
+        end_object(alloc, &mut object, closing);
+        shelf.put(number, object);
+    }
+}
+
+/// Decides between the versions of an object, and writes the end into its annals.
+fn end_object<H: Annals>(alloc: Global, object: &mut PlainObject<H>, closing: Closing)
+    requires within { closing.stamp ≤ 2 ^ 62 }
+    requires room { 1 ≤ H.spare object.old.annals }
+    requires above { H.last object.old.annals < closing.stamp }
+    ensures { HasEnded H.told H.last closing.stamp closing.session closing.number closing.committed object.old object.new }
+{
+    object.decide(closing.committed);
+    object.annals.append_end(End {
+        stamp: closing.stamp,
+        session: closing.session,
+        number: closing.number,
+        acts: Acts::new(alloc),
+        committed: closing.committed,
+    });
+}

@@ -1,0 +1,26 @@
+//! An object in the hands of a transaction.
+
+ghost use Rattle.std.specs.Prelude.{◌≡◌, ◌≤◌, None, IfSome, IfNone, is_some, length};
+ghost use Rattle.shadow_txn.specs.Held.{object_in, IsPlace};
+
+/// An object with its number.
+#[derive(Debug, Drop)]
+pub struct Held<T> {
+    pub number: u32,
+    pub object: T,
+}
+
+/// Where an object stands among those that are held.
+pub(crate) fn place_of<T>(held: &[Held<T>], o: u64) -> Option<usize>
+    requires { length held.now ≤ 16 }
+    ensures found { IfSome result (λ i. IsPlace held.now o i) }
+    ensures none { IfNone result (object_in o held.now ≡ None) }
+    ensures variant { is_some result ≡ is_some (object_in o held.now) }
+{
+    for (i, one) in held.iter().enumerate() {
+        if u64::from(one.number) == o {
+            return Some(i);
+        }
+    }
+    None
+}

@@ -1,0 +1,83 @@
+//! Taking an object, and letting it go without an end.
+
+ghost use Rattle.std.specs.Prelude.{◌≡◌, ◌≢◌, ◌<◌, ◌≤◌, ◌↔◌, ◌⊎◌, true, Err, Some, None, IfSome, IfOk, IfErr, OnOk, OnErr, IsOk, IsSome, length, slice_get};
+ghost use Rattle.object_locks.specs.Shelving.{Terms};
+ghost use Rattle.shadow_txn.specs.Held.{object_in};
+ghost use Rattle.shadow_txn.specs.Serving.{Serves};
+ghost use Rattle.shadow_txn.specs.Taking.{IsTaken, Leaves, Holds, CanAsk};
+
+use crate::annals_room::make_room;
+use crate::held::place_of;
+use crate::{Held, HoldFail, PlainObject, Txn};
+use eos_ops::{Annals, MAX_HELD};
+use object_locks::Shelf;
+
+impl<H: Annals> Txn<H> {
+    /// Takes object `o` from the shelf. An object that is held already stays so.
+    pub fn hold<X: Shelf<PlainObject<H>>>(&mut self, shelf: &mut X, o: u64) -> Result<(), HoldFail>
+        requires open { self.old.is_open ≡ true }
+        requires serves { Serves H.told H.last self.old (X.shelving shelf.old) }
+        requires terms { (t : Terms) × X.under shelf.old t }
+        ensures held { IsSome (object_in o self.old.held) → IsOk result × (self.new ≡ self.old) × (X.shelving shelf.new ≡ X.shelving shelf.old) }
+        ensures ok { OnOk result (object_in o self.old.held ≡ None → Holds H.told H.last H.spare o self.old self.new (X.shelving shelf.old) (X.shelving shelf.new)) }
+
+        // The refusals, in this order. After each of them nothing is held that wasn't.
+        ensures no_object { (result ≡ Err HoldFail.NoObject) ↔ ((object_in o self.old.held ≡ None) × (self.old.objects ≤ o)) }
+        ensures full { (result ≡ Err HoldFail.Full) ↔ ((object_in o self.old.held ≡ None) × (o < self.old.objects) × (length self.old.held ≡ MAX_HELD)) }
+        ensures busy { IfSome (X.shelving shelf.old).home (λ xs. (result ≡ Err HoldFail.Busy) ↔ (CanAsk o self.old × (slice_get xs o ≡ Some None))) }
+        ensures err { OnErr result (self.new ≡ self.old) }
+        ensures left { IfErr result (λ fail. Leaves H.told H.last fail o (X.shelving shelf.old) (X.shelving shelf.new)) }
+        ensures serves { Serves H.told H.last self.new (X.shelving shelf.new) }
+        ensures under { (t : Terms) → X.under shelf.old t → X.under shelf.new t }
+    {
+        if self.holds(o) {
+            return Ok(());
+        }
+        let number = self.admit(o)?;
+        let object = take_ready(shelf, number)?;
+        self.held.push_reserved(Held { number, object });
+        Ok(())
+    }
+
+    /// The number of an object that may be asked for.
+    fn admit(&self, o: u64) -> Result<u32, HoldFail>
+        ensures ok { IfOk result (λ number. (number ≡ o) × (o < self.now.objects) × (length self.now.held < MAX_HELD)) }
+        ensures no_object { (result ≡ Err HoldFail.NoObject) ↔ (self.now.objects ≤ o) }
+        ensures full { (result ≡ Err HoldFail.Full) ↔ ((o < self.now.objects) × (length self.now.held ≡ MAX_HELD)) }
+        ensures err { IfErr result (λ fail. (fail ≡ HoldFail.NoObject) ⊎ (fail ≡ HoldFail.Full)) }
+    {
+        if o >= u64::from(self.objects) {
+            return Err(HoldFail::NoObject);
+        }
+        if self.held.len() >= MAX_HELD {
+            return Err(HoldFail::Full);
+        }
+        Ok(o as u32)
+    }
+}
+
+/// Takes an object that isn't held, with room in its annals for one end.
+fn take_ready<H: Annals, X: Shelf<PlainObject<H>>>(
+    shelf: &mut X,
+    o: u32,
+) -> Result<PlainObject<H>, HoldFail>
+    requires number { o < (X.shelving shelf.old).objects }
+    requires free { IfSome (X.shelving shelf.old).session (λ _. (X.shelving shelf.old).out o ≡ None) }
+    requires terms { (t : Terms) × X.under shelf.old t }
+    ensures ok { IfOk result (λ object. IsTaken H.told H.last H.spare o object (X.shelving shelf.old) (X.shelving shelf.new)) }
+    ensures err { IfErr result (λ fail. Leaves H.told H.last fail o (X.shelving shelf.old) (X.shelving shelf.new)) }
+    ensures asked { IfErr result (λ fail. (fail ≢ HoldFail.NoObject) × (fail ≢ HoldFail.Full)) }
+    ensures exact { IfSome (X.shelving shelf.old).home (λ xs. (result ≡ Err HoldFail.Busy) ↔ (slice_get xs o ≡ Some None)) }
+    ensures under { (t : Terms) → X.under shelf.old t → X.under shelf.new t }
+{
+    let Ok(mut object) = shelf.take(o) else {
+        return Err(HoldFail::Busy);
+    };
+    match make_room(&mut object.annals) {
+        Ok(()) => Ok(object),
+        Err(fail) => {
+            shelf.put(o, object);
+            Err(fail)
+        }
+    }
+}

@@ -1,0 +1,21 @@
+//! Transactions over objects in two versions.
+//!
+//! A transaction takes the objects that its commands are on, one after the other, and holds each until its
+//! end. An edit changes the working version of an object alone. A commit makes the working versions the
+//! committed ones, an abort forgets them. The end has a stamp above all that its objects and its session
+//! have seen, and the annals of each object write it down.
+#![tactic(auto)]
+
+mod act;
+mod annals_room;
+mod end;
+mod fails;
+mod held;
+mod hold;
+mod plain_object;
+mod txn;
+
+pub use fails::{BeginFail, HoldFail, TxnFail};
+pub use held::Held;
+pub use plain_object::PlainObject;
+pub use txn::Txn;
