@@ -1,0 +1,5 @@
+pub mod ChildLemmas
+pub mod HeldLemmas
+pub mod LevelLemmas
+pub mod MeterLemmas
+pub mod TreeLemmas

@@ -1,0 +1,86 @@
+-- What is under a level's nodes stays what the range meets of all entries, down to the entries.
+use Rattle.std.proofs.Common.{◌≡◌, ℕ, suc, ◌+◌, ◌-◌, ◌/◌, ◌<◌, ◌≤◌, IsTrue, List, length, sym, ap, subst, ◌∙◌, arith}
+use Rattle.std.specs.List.{AllByRecursion}
+use Rattle.tree_model.specs.declared.entry.Placed.{Placed}
+use Rattle.tree_model.specs.Node.{room_of}
+use Rattle.tree_read.specs.Cost.{below, nodes_in_range}
+use Rattle.tree_read.specs.Scratch.{IsPrepared}
+use Rattle.tree_read.specs.Search.{IsNamed, KeepsNodes, Uses, top as top_of}
+use Rattle.tree_read.proofs.LevelLemmas.{IsLevel, IsLevel-top, IsLevel-below, IsLevel-named, IsLevel-entries, length-nodes-next}
+use Rattle.tree_read.proofs.MeterLemmas.{Uses-none, Uses-then}
+use Rattle.tree_read.proofs.range.entries.Goals as goal
+
+pub loop-level-init : goal.loop-level-init
+loop-level-init g c =
+    let root = c.args.root.now in
+    let at = g.H.Held.bytes_on c.args.held.now in
+    let m = g.P.Port.meter c.args.port.now in
+    let items : c.in_ok-segments.segments.items ≡ top_of root c.args.from c.args.to = c.in_ok-segments.ensures.top in
+    record {
+      kept = c.requires.kept;
+      prepared = subst (λ (n : ℕ). IsPrepared n c.in_ok-scratch.scratch) c.page.ensures c.in_ok-scratch.ensures;
+      uses = Uses-none m;
+      fits = c.in_ok-segments.ensures.fits;
+      told = λ t. subst (IsLevel at c.args.from c.args.to root.height root.page root.height) (sym items)
+          (IsLevel-top at (room_of m.page / 2) c.args.from c.args.to root.height root.page root.length (c.requires.told t) c.requires.order c.requires.inside);
+      few = λ t.
+          let same = ap (λ (ss : List Placed). length (nodes_in_range at c.args.from c.args.to root.height ss)) items in
+          omega arith;
+    }
+
+pub level_below-requires-clause-told : goal.level_below-requires-clause-told
+level_below-requires-clause-told g c = λ _ _ t.
+    let root = c.args.root.now in
+    let at = g.H.Held.bytes_on c.args.held.now in
+    let level = c.loop-level.level in
+    let e : level ≡ suc (level - 1) = omega arith in
+    subst (AllByRecursion (IsNamed at level)) (sym c.as_slice.ensures.value)
+    (IsLevel-named at c.args.from c.args.to root.height root.page level (level - 1) c.loop-level.segments.items e (c.loop-level.invariant.told t))
+
+pub returns-in_err-segments-2-clause-few : goal.returns-in_err-segments-2-clause-few
+returns-in_err-segments-2-clause-few g c = λ t.
+    let at = g.H.Held.bytes_on c.args.held.now in
+    let level = c.loop-level.level in
+    let e : level ≡ suc (level - 1) = omega arith in
+    let nodes = length-nodes-next at c.args.from c.args.to level (level - 1) c.loop-level.segments.items e in
+    let same = ap length c.as_slice.ensures.value in
+    let read = c.level_below.ensures.reads.few in
+    let before = c.loop-level.invariant.few t in
+    omega (arith, nodes, same, read, before)
+
+pub loop-level-preserved : goal.loop-level-preserved
+loop-level-preserved g c =
+    let root = c.args.root.now in
+    let at = g.H.Held.bytes_on c.args.held.now in
+    let from = c.args.from in
+    let to = c.args.to in
+    let level = c.loop-level.level in
+    let e : level ≡ suc (level - 1) = omega arith in
+    let m0 = g.P.Port.meter c.args.port.now in
+    let m1 = g.P.Port.meter c.loop-level.port in
+    let m2 = g.P.Port.meter c.level_below.new.port in
+    let old = c.loop-level.segments.items in
+    let new = c.in_ok-segments-2.segments.items in
+    let page : m1.page ≡ m0.page = c.loop-level.invariant.uses.page in
+    let items = λ (t : IsTrue g.P.S.Span.tells). c.in_ok-segments-2.ensures.told t ∙ ap (below at from to) c.as_slice.ensures.value in
+    record {
+      kept = subst (λ (n : ℕ). KeepsNodes g.P.S.Span.tells n (g.H.Held.bytes_on c.args.held.now) c.level_below.new.cache) page c.level_below.ensures.kept;
+      prepared = subst (λ (n : ℕ). IsPrepared n c.level_below.new.scratch) page c.level_below.ensures.prepared;
+      uses = Uses-then (length c.as_slice.result.now) m0 m1 m2 c.loop-level.invariant.uses c.level_below.ensures.reads;
+      fits = c.in_ok-segments-2.ensures.fits;
+      told = λ t. subst (IsLevel at from to root.height root.page (level - 1)) (sym (items t))
+          (IsLevel-below at from to root.height root.page level (level - 1) old e (c.loop-level.invariant.told t));
+      few = λ t.
+          let nodes = length-nodes-next at from to level (level - 1) old e in
+          let same = ap length c.as_slice.ensures.value in
+          let read = c.level_below.ensures.reads.few in
+          let before = c.loop-level.invariant.few t in
+          let next = ap (λ (ss : List Placed). length (nodes_in_range at from to (level - 1) ss)) (items t) in
+          omega (arith, nodes, same, read, before, next);
+    }
+
+pub returns-clause-told : goal.returns-clause-told
+returns-clause-told g c = λ t.
+    let root = c.args.root.now in
+    IsLevel-entries (g.H.Held.bytes_on c.args.held.now) c.args.from c.args.to root.height root.page c.loop-level.level c.loop-level.segments.items
+    (omega arith) (c.loop-level.invariant.told t)

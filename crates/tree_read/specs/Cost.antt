@@ -1,0 +1,15 @@
+-- The nodes that a search in a range reads.
+use Rattle.std.specs.Prelude.{ℕ, zero, suc, List, [], ◌∷◌, ◌++◌}
+use Rattle.std.specs.List.{flat_map}
+use Rattle.tree_model.specs.declared.entry.Placed.{Placed}
+use Rattle.tree_model.specs.Tree.{Pages, pairs_on}
+use Rattle.tree_model.specs.Range.{in_range}
+
+-- one level down: those pairs of the nodes that have a byte in the range
+abbrev pub below : Pages → ℕ → ℕ → List Placed → List Placed
+below at from to nodes = flat_map (λ s. in_range from to s.start (pairs_on at s.pair.page)) nodes
+
+-- all nodes with a byte in the range, level by level, from those given down `height` levels
+abbrev pub nodes_in_range : Pages → ℕ → ℕ → ℕ → List Placed → List Placed
+nodes_in_range at from to zero nodes = []
+nodes_in_range at from to (suc height) nodes = nodes ++ nodes_in_range at from to height (below at from to nodes)

@@ -1,0 +1,21 @@
+//! Search in the tree of an object: the segment that has a byte, and the segments of a range.
+//!
+//! A search reads each node that it needs once, and none that the cache keeps. Where the device doesn't
+//! tell what its pages hold, a page that isn't the node it should be is counted as a fault.
+#![tactic(auto)]
+
+mod children;
+mod failure;
+mod held;
+mod load;
+mod range;
+mod scratch;
+mod search;
+mod start;
+
+pub use failure::TreeFail;
+pub use held::Held;
+pub use node_codec::Placed;
+pub use range::entries;
+pub use search::{find, length};
+pub use tree_model::Root;

@@ -1,0 +1,127 @@
+//! One node: from the cache or from its page, and checked against the pair that names it.
+
+ghost use Rattle.std.specs.Prelude.{◌≡◌, ℕ, ◌+◌, ◌^◌, ◌<◌, ◌≤◌, ◌↔◌, Bool, length, IsTrue, IsErr, IsSome, SomeIff, OnOk};
+ghost use Rattle.geometry_model.specs.Numbers.{is_page_size};
+ghost use Rattle.page_port.specs.Counts.{HasCause, Meter};
+ghost use Rattle.tree_model.specs.Node.{HoldsNode, NodeBytes, room_of};
+ghost use Rattle.tree_model.specs.Tree.{HasNode, bytes_of, pairs_on};
+ghost use Rattle.page_cache.specs.Kept.{kept, KeepsSame};
+ghost use Rattle.tree_read.specs.Scratch.{IsPrepared};
+ghost use Rattle.tree_read.specs.Search.{KeepsNodes, Reads};
+
+use crate::held::Held;
+use crate::scratch::Scratch;
+use node_codec::{Node, Pair, decode};
+use page_cache::Cache;
+use page_port::{DeviceFault, Port};
+
+/// Reads the node of this level that a pair names, and checks that it has just the pair's bytes.
+pub fn load<P: Port, H: Held<P>>(
+    held: &H,
+    cache: &mut Cache,
+    port: &mut P,
+    level: u8,
+    pair: Pair,
+    scratch: &mut Scratch,
+) -> Result<(), DeviceFault>
+    requires page_size { IsTrue (is_page_size (P.meter port.old).page) }
+    requires sized { H.is_sized held.now (P.meter port.old).page }
+    requires prepared { IsPrepared (P.meter port.old).page scratch.old }
+    requires kept { KeepsNodes P.S.tells (P.meter port.old).page (H.bytes_on held.now) cache.old }
+    requires told { IsTrue P.S.tells → HasNode (H.bytes_on held.now) pair.page level 0 pair.bytes }
+    ensures sum { OnOk result (bytes_of scratch.new.node.pairs.items ≡ pair.bytes) }
+    ensures told { OnOk result (IsTrue P.S.tells
+        → scratch.new.node.pairs.items ≡ pairs_on (H.bytes_on held.now) pair.page) }
+    ensures prepared { IsPrepared (P.meter port.old).page scratch.new }
+    ensures kept { KeepsNodes P.S.tells (P.meter port.old).page (H.bytes_on held.now) cache.new }
+    ensures reads { Reads 1 (P.meter port.old) (P.meter port.new) }
+    ensures cause { HasCause (P.meter port.old).faults (P.meter port.new).faults (IsErr result) }
+{
+    node_on(held, cache, port, pair.page, scratch)?;
+    if is_named(&scratch.node, level, pair.bytes) {
+        return Ok(());
+    }
+    port.blame();
+    Err(DeviceFault)
+}
+
+/// Takes the node on a page from the cache, or else from the device for the next time.
+fn node_on<P: Port, H: Held<P>>(
+    held: &H,
+    cache: &mut Cache,
+    port: &mut P,
+    page: u32,
+    scratch: &mut Scratch,
+) -> Result<(), DeviceFault>
+    requires page_size { IsTrue (is_page_size (P.meter port.old).page) }
+    requires sized { H.is_sized held.now (P.meter port.old).page }
+    requires prepared { IsPrepared (P.meter port.old).page scratch.old }
+    requires kept { KeepsNodes P.S.tells (P.meter port.old).page (H.bytes_on held.now) cache.old }
+    requires told { IsTrue P.S.tells → HoldsNode (H.bytes_on held.now page) }
+    ensures told { OnOk result (IsTrue P.S.tells
+        → NodeBytes (H.bytes_on held.now page) scratch.new.node.level scratch.new.node.pairs.items) }
+    ensures prepared { IsPrepared (P.meter port.old).page scratch.new }
+    ensures kept { KeepsNodes P.S.tells (P.meter port.old).page (H.bytes_on held.now) cache.new }
+    ensures reads { Reads 1 (P.meter port.old) (P.meter port.new) }
+    ensures cause { HasCause (P.meter port.old).faults (P.meter port.new).faults (IsErr result) }
+{
+    if cache.get(page, &mut scratch.node) {
+        return Ok(());
+    }
+    fetch(held, port, page, &mut scratch.page, &mut scratch.node)?;
+    cache.keep(page, &scratch.node);
+    Ok(())
+}
+
+/// Reads the node on a page from the device, by way of `bytes`, which has room for the page.
+fn fetch<P: Port, H: Held<P>>(
+    held: &H,
+    port: &mut P,
+    page: u32,
+    bytes: &mut [u8],
+    node: &mut Node,
+) -> Result<(), DeviceFault>
+    requires page_size { IsTrue (is_page_size (P.meter port.old).page) }
+    requires sized { H.is_sized held.now (P.meter port.old).page }
+    requires whole { length bytes.old ≡ (P.meter port.old).page }
+    requires room { room_of (P.meter port.old).page ≤ node.old.pairs.room }
+    requires told { IsTrue P.S.tells → HoldsNode (H.bytes_on held.now page) }
+    ensures told { OnOk result (IsTrue P.S.tells
+        → NodeBytes (H.bytes_on held.now page) node.new.level node.new.pairs.items) }
+    ensures small { OnOk result (length node.new.pairs.items ≤ room_of (P.meter port.old).page) }
+    ensures room { node.new.pairs.room ≡ node.old.pairs.room }
+    ensures reads { Reads 1 (P.meter port.old) (P.meter port.new) }
+    ensures cause { HasCause (P.meter port.old).faults (P.meter port.new).faults (IsErr result) }
+{
+    if !held.has_page(page) {
+        port.blame();
+        return Err(DeviceFault);
+    }
+    held.read_page(port, page, bytes)?;
+    if decode(bytes, node).is_ok() {
+        return Ok(());
+    }
+    port.blame();
+    Err(DeviceFault)
+}
+
+/// Is the node of this level, with these bytes under its pairs?
+fn is_named(node: &Node, level: u8, bytes: u64) -> bool
+    ensures { IsTrue result ↔ ((node.now.level ≡ level) × (bytes_of node.now.pairs.items ≡ bytes)) }
+{
+    node.level == level && sum_of(node.pairs.as_slice()) == Some(bytes)
+}
+
+/// The bytes under these pairs, where their number fits.
+fn sum_of(pairs: &[Pair]) -> Option<u64>
+    ensures { SomeIff result (bytes_of pairs.now < 2 ^ 64) (bytes_of pairs.now) }
+{
+    let mut sum: u64 = 0;
+    for pair in pairs {
+        let Some(more) = sum.checked_add(pair.bytes) else {
+            return None;
+        };
+        sum = more;
+    }
+    Some(sum)
+}

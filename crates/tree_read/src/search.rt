@@ -1,0 +1,65 @@
+//! The segment that has one byte: one node a level, from the root down.
+
+ghost use Rattle.std.specs.Prelude.{◌≡◌, ◌+◌, ◌/◌, ◌<◌, ◌≤◌, [], ◌∷◌, IsTrue, IfOk};
+ghost use Rattle.geometry_model.specs.Numbers.{is_page_size};
+ghost use Rattle.page_port.specs.Counts.{HasCause};
+ghost use Rattle.tree_model.specs.Node.{room_of};
+ghost use Rattle.tree_model.specs.Tree.{IsTree, entries_of};
+ghost use Rattle.tree_model.specs.Range.{in_range};
+ghost use Rattle.tree_read.specs.Search.{KeepsNodes, Reads};
+
+use crate::children::child_at;
+use crate::failure::TreeFail;
+use crate::held::Held;
+use crate::load::load;
+use crate::scratch::Scratch;
+use crate::start::root_segment;
+use node_codec::Placed;
+use page_cache::Cache;
+use page_port::Port;
+use std::alloc::Global;
+use tree_model::Root;
+
+/// The bytes of an object.
+pub fn length(root: &Root) -> u64
+    ensures { result ≡ root.now.length }
+{
+    root.length
+}
+
+/// The segment that has byte `at`, with its place. It reads one node a level.
+///
+/// # Errors
+/// `Fault` where the device failed or gave a page that isn't the node that was written: the port's count
+/// of faults rose. `Memory` where there was no memory.
+pub fn find<P: Port, H: Held<P>>(
+    alloc: Global,
+    root: &Root,
+    held: &H,
+    cache: &mut Cache,
+    port: &mut P,
+    at: u64,
+) -> Result<Placed, TreeFail>
+    requires inside { at < root.now.length }
+    requires page_size { IsTrue (is_page_size (P.meter port.old).page) }
+    requires sized { H.is_sized held.now (P.meter port.old).page }
+    requires kept { KeepsNodes P.S.tells (P.meter port.old).page (H.bytes_on held.now) cache.old }
+    requires told { IsTrue P.S.tells → IsTree (H.bytes_on held.now)
+        (room_of (P.meter port.old).page / 2) root.now.height root.now.page root.now.length }
+    ensures told { IfOk result (λ segment. IsTrue P.S.tells
+        → in_range at (at + 1) 0 (entries_of (H.bytes_on held.now) root.now.height root.now.page) ≡ segment ∷ []) }
+    ensures kept { KeepsNodes P.S.tells (P.meter port.old).page (H.bytes_on held.now) cache.new }
+    ensures reads { Reads root.now.height (P.meter port.old) (P.meter port.new) }
+    ensures cause { HasCause (P.meter port.old).faults (P.meter port.new).faults
+        (result ≡ Err TreeFail.Fault) }
+{
+    let mut scratch = Scratch::new(alloc, port.page())?;
+    let mut segment = root_segment(*root);
+    let mut level = root.height;
+    while level > 0 {
+        load(held, cache, port, level, segment.pair, &mut scratch)?;
+        segment = child_at(scratch.node.pairs.as_slice(), segment.start, at);
+        level -= 1;
+    }
+    Ok(segment)
+}
