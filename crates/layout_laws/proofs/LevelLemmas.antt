@@ -12,7 +12,7 @@ use Rattle.std.proofs.lemmas.List.Sums.{sum_by-cons, sum_by-append}
 use Rattle.tree_model.specs.declared.entry.Pair.{Pair}
 use Rattle.layout_model.specs.Levels.{PageNode, NewLevel, Site, pairs_of, node_at, first_touched, count_touched, touched, nodes_at, exchanged, joins, joined, site_of, sizes_of, cut_into, on_pages, level_with, level_after, raised, levels_from, spliced, is_top, pair_of, entries_of, nodes_of, unless_empty}
 
-test_cases : (b : Bool) → (b ≡ true) ⊎ (b ≡ false)
+pub test_cases : (b : Bool) → (b ≡ true) ⊎ (b ≡ false)
 test_cases true = inl refl
 test_cases false = inr refl
 
@@ -152,7 +152,7 @@ sizes-total f n some =
           none-many ((n + (f - 1)) / f) n no_node (some-node f n some few)
     ]
 
-count-cons : (x : PageNode) (xs : List PageNode) → length (pairs_of (x ∷ xs)) ≡ length x.pairs + length (pairs_of xs)
+pub count-cons : (x : PageNode) (xs : List PageNode) → length (pairs_of (x ∷ xs)) ≡ length x.pairs + length (pairs_of xs)
 count-cons x xs = ap length (pairs-cons x xs) ∙ length-append x.pairs (pairs_of xs)
 
 -- before the node that has pair number `at` there are at most so many pairs
@@ -284,7 +284,7 @@ level-spliced f nodes from count fresh pages some within =
     (sizes-total f (length (exchanged nodes site from count fresh)) some)
 
 -- the levels begin with the lowest
-raised-head : (steps f : ℕ) (below : NewLevel) (pages : List ℕ) → (above : List NewLevel) × (raised steps f below pages ≡ below ∷ above)
+pub raised-head : (steps f : ℕ) (below : NewLevel) (pages : List ℕ) → (above : List NewLevel) × (raised steps f below pages ≡ below ∷ above)
 raised-head zero f below pages = ([], refl)
 raised-head (suc steps) f below pages =
     elim (test_cases (is_top below)) [
@@ -295,7 +295,7 @@ raised-head (suc steps) f below pages =
       )
     ]
 
-levels_from-head : (f : ℕ) (below : NewLevel) (old : List (List PageNode)) (pages : List ℕ) →
+pub levels_from-head : (f : ℕ) (below : NewLevel) (old : List (List PageNode)) (pages : List ℕ) →
     (above : List NewLevel) × (levels_from f below old pages ≡ below ∷ above)
 levels_from-head f below [] pages = raised-head (length below.nodes) f below pages
 levels_from-head f below (nodes ∷ old) pages =

@@ -1,3 +1,4 @@
 pub mod MergingLemmas
 pub mod HalvingLemmas
 pub mod LevelLemmas
+pub mod NamingLemmas

@@ -3,6 +3,7 @@
 ghost use Rattle.std.specs.Prelude.{◌≡◌, ℕ, ◌+◌, ◌<◌, ◌≤◌, List, ◌++◌, length, take, drop};
 ghost use Rattle.tree_model.specs.declared.entry.Pair.{Pair};
 ghost use Rattle.layout_model.specs.Levels.{PageNode, pairs_of, entries_of, level_after, spliced, nodes_of};
+ghost use Rattle.layout_laws.specs.Naming.{AreNamed, HavePairs};
 
 /// A level after an exchange has the list splice of the pairs that it had.
 pub fn a_level_is_spliced()
@@ -18,4 +19,11 @@ pub fn entries_are_spliced()
         0 < f → from + count ≤ length (entries_of levels) →
         entries_of (nodes_of (spliced f levels from count fresh pages))
         ≡ take from (entries_of levels) ++ (fresh ++ drop (from + count) (entries_of levels)) }
+{}
+
+/// Where each level names the level below it, so do the new levels.
+pub fn new_levels_name_each_other()
+    ensures { (f : ℕ) (levels : List (List PageNode)) (from count : ℕ) (fresh : List Pair) (pages : List ℕ) →
+        0 < f → AreNamed levels → HavePairs levels → from + count ≤ length (entries_of levels) →
+        AreNamed (nodes_of (spliced f levels from count fresh pages)) }
 {}
