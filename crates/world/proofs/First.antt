@@ -5,10 +5,9 @@ use Rattle.std.proofs.lemmas.List.{get_or_past, get_or-set_same, get_or-set_othe
 use Rattle.eos_ops.specs.declared.limits.TheConstants.{SESSIONS}
 use Rattle.eos_ops.specs.declared.plain.Plain.TheVariants.{Absent}
 use Rattle.history.specs.Event.{Closes}
-use Rattle.machine.specs.Machine.{Slot, Machine, no_slot, no_seat, seat_in, is_active, is_holder, database, AtRest}
+use Rattle.machine.specs.Machine.{Slot, Machine, no_slot, no_seat, new_slot, fresh, seat_in, is_active, is_holder, database, AtRest}
 use Rattle.machine.specs.Next.{settled, stamp_of, next}
 use Rattle.world.specs.Place.{Place, no_place, seat_of}
-use Rattle.world.specs.First.{at_first}
 use Rattle.world.specs.Ties.{place_in, slot_in, viewed, IsGoodPlace, IsGoodSlot, IsTied, is_among}
 use Rattle.world.proofs.Ties.{Agree-none}
 use Rattle.world.proofs.Viewed.{seat_at-viewed}
@@ -22,10 +21,6 @@ place_in-first : (n s : ℕ) → place_in (replicate n no_place) s ≡ no_place
 place_in-first n zero = refl
 place_in-first n (suc i) = get_or-replicate_default n i no_place
 
-seat_in-first : (n s : ℕ) → seat_in (replicate n no_seat) s ≡ no_seat
-seat_in-first n zero = refl
-seat_in-first n (suc i) = get_or-replicate_default n i no_seat
-
 map-replicate_all : {A B : Type 0} (f : A → B) (n : ℕ) (x : A) → map f (replicate n x) ≡ replicate n (f x)
 map-replicate_all f zero x = refl
 map-replicate_all f (suc n) x = ap (λ xs. f x ∷ xs) (map-replicate_all f n x)
@@ -34,8 +29,10 @@ length-replicate_all : {A : Type 0} (n : ℕ) (x : A) → length (replicate n x)
 length-replicate_all zero x = refl
 length-replicate_all (suc n) x = let rest : length (replicate n x) ≡ n = length-replicate_all n x in omega arith
 
-pub viewed-first : (n : ℕ) → viewed (replicate SESSIONS no_place) (replicate n no_slot) ≡ at_first n
-viewed-first n = ap (λ seats. record { slots = replicate n no_slot; seats = seats }) (map-replicate_all seat_of SESSIONS no_place)
+pub viewed-first : (n : ℕ) → viewed (replicate SESSIONS no_place) (replicate n no_slot) ≡ fresh SESSIONS (replicate n Absent)
+viewed-first n =
+    ap (λ seats. record { slots = replicate n no_slot; seats = seats }) (map-replicate_all seat_of SESSIONS no_place)
+    ∙ ap (λ slots. record { slots = slots; seats = replicate SESSIONS no_seat }) (sym (map-replicate_all new_slot n Absent))
 
 good-no_place : IsGoodPlace no_place
 good-no_place = record { last = omega arith; open_ended = λ e. absurd (false≢true e); idle = λ _. refl }
@@ -110,18 +107,3 @@ active-closed m (suc i) (suc j) committed others = elim (cases_eq j i) [
   ]
   | inr other ↦ ap (λ seat. seat.active) (get_or-set_other m.seats i j (record { active = false; stamp = stamp_of m (suc i) }) no_seat other) ∙ others (omega arith)
 ]
-
--- before the first line nothing is open
-pub rest-first : (n : ℕ) → AtRest (at_first n)
-rest-first n = record {
-  idle = λ s. ap (λ seat. seat.active) (seat_in-first SESSIONS s);
-  free = λ o. ap (λ slot. slot.holder) (get_or-replicate_default n o no_slot);
-  equal = λ o. ap (λ slot. slot.working) (get_or-replicate_default n o no_slot) ∙ sym (ap (λ slot. slot.committed) (get_or-replicate_default n o no_slot));
-}
-
--- and each object is absent
-pub database-first : (n : ℕ) → database (at_first n) ≡ replicate n Absent
-database-first n = map-replicate_all (λ slot. slot.committed) n no_slot
-
-pub sessions-first : (n : ℕ) → length (at_first n).seats ≡ SESSIONS
-sessions-first n = length-replicate_all SESSIONS no_seat

@@ -1,4 +1,3 @@
-pub mod First
 pub mod Place
 pub mod Refused
 pub mod Served

@@ -6,11 +6,10 @@ ghost use Rattle.eos_ops.specs.declared.limits.TheConstants.{SESSIONS};
 ghost use Rattle.eos_ops.specs.declared.plain.Plain.TheVariants.{Absent};
 ghost use Rattle.eos_ops.specs.declared.reply.Reply.TheVariants.{Idle};
 ghost use Rattle.eos_ops.specs.Objects.{object_of as object_of_command, is_too_long as is_too_long_command, reply_in};
-ghost use Rattle.machine.specs.Machine.{AtRest, is_active, database, slot_at, with_slot};
+ghost use Rattle.machine.specs.Machine.{AtRest, is_active, database, fresh, slot_at, with_slot};
 ghost use Rattle.history.specs.Event.{Closes};
 ghost use Rattle.machine.specs.Next.{next};
 ghost use Rattle.machine.specs.Replies.{IsStep, object_refused};
-ghost use Rattle.world.specs.First.{at_first};
 ghost use Rattle.world.specs.Served.{served};
 ghost use Rattle.world.specs.Refused.{slot_refused};
 
@@ -47,7 +46,7 @@ impl Model for PlainWorld {
 impl PlainWorld {
     /// So many absent objects, and no session with a transaction open.
     pub fn new(alloc: Global, objects: u32) -> Result<PlainWorld, AllocError>
-        ensures first { IfOk result (λ world. world ≡ at_first objects) }
+        ensures first { IfOk result (λ world. world ≡ fresh SESSIONS (replicate objects Absent)) }
         ensures rest { IfOk result (λ world. AtRest world) }
         ensures database { IfOk result (λ world. database world ≡ replicate objects Absent) }
         ensures sessions { IfOk result (λ world. length world.seats ≡ SESSIONS) }
@@ -250,3 +249,6 @@ fn refusal_by(slot: &Slot, session: u32, is_full: bool) -> Option<Reply>
         None => None,
     }
 }
+
+#[cfg(test)]
+mod tests;
