@@ -1,0 +1,6 @@
+mod CountLemmas
+mod HeadlineLemmas
+mod LineLemmas
+mod LineRunLemmas
+mod PlainLemmas
+mod ServedLemmas
