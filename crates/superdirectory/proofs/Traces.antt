@@ -1,0 +1,122 @@
+-- Parts of a trace, one after the other, and what a search over spaces adds to it.
+use Rattle.std.proofs.Common.{inl, inr, ◌≡◌, ℕ, suc, zero, ◌+◌, ◌-◌, ◌<◌, ◌≤◌, Bool, true, false, List, [], ◌∷◌, ◌++◌, length, Option, Some, None, refl, sym, ap, ◌∙◌, subst, arith}
+use Rattle.std.proofs.lemmas.List.{append-nil, append_assoc}
+use Rattle.std.proofs.lemmas.Bool.{cases_lt, cases_eq, false≢true}
+use Rattle.std.specs.Prelude.{IsTrue, slice_get}
+use Rattle.superdirectory.specs.Trace.{Event, look_event, enter_event, Part, IsLow, IsCareful, IsTried, IsSearched, IsEntered, AreEnters}
+
+pub part_none : (P : List Event → Type 0) (t : Option (List Event)) → P [] → Part P t t
+part_none P None p = refl
+part_none P (Some before) p = ([], ap (λ (l : List Event). Some l) (sym (append-nil before)), p)
+
+-- two calls, one after the other
+pub part_then : (P Q R : List Event → Type 0) (a b c : Option (List Event)) → ((p q : List Event) → P p → Q q → R (p ++ q)) → Part P a b → Part Q b c → Part R a c
+part_then P Q R None b c both first second = subst (λ (t : Option (List Event)). Part Q t c) first second
+part_then P Q R (Some before) b c both (p, e, here) second =
+    let (q, f, there) = (let s : Part Q (Some (before ++ p)) c = subst (λ (t : Option (List Event)). Part Q t c) e second in s) in
+    (p ++ q, f ∙ ap (λ (l : List Event). Some l) (append_assoc before p q), both p q here there)
+
+pub part_as : (P Q : List Event → Type 0) (a b : Option (List Event)) → ((p : List Event) → P p → Q p) → Part P a b → Part Q a b
+part_as P Q None b more h = h
+part_as P Q (Some before) b more (p, e, here) = (p, e, more p here)
+
+-- an event of a row of two parts
+get_left : (p q : List Event) (i : ℕ) (e : Event) → slice_get p i ≡ Some e → slice_get (p ++ q) i ≡ Some e
+get_left [] q i e h = cc
+get_left (x ∷ p) q zero e h = h
+get_left (x ∷ p) q (suc i) e h = get_left p q i e h
+
+get_right : (p q : List Event) (i : ℕ) → slice_get (p ++ q) (length p + i) ≡ slice_get q i
+get_right [] q i = let e : zero + i ≡ i = omega arith in ap (λ (k : ℕ). slice_get q k) e
+get_right (x ∷ p) q i = let e : suc (length p) + i ≡ suc (length p + i) = omega arith in ap (λ (k : ℕ). slice_get (x ∷ (p ++ q)) k) e ∙ get_right p q i
+
+get_within : (p q : List Event) (i : ℕ) → i < length p → slice_get (p ++ q) i ≡ slice_get p i
+get_within [] q i less = absurd (omega arith)
+get_within (x ∷ p) q zero less = refl
+get_within (x ∷ p) q (suc i) less = get_within p q i (omega arith)
+
+pub low_left : (space order : ℕ) (p q : List Event) → IsLow space order p → IsLow space order (p ++ q)
+low_left space order p q l = record { at = l.at; event = l.event; here = get_left p q l.at l.event l.here; of = l.of; low = l.low }
+
+pub low_right : (space order : ℕ) (p q : List Event) → IsLow space order q → IsLow space order (p ++ q)
+low_right space order p q l = record { at = length p + l.at; event = l.event; here = get_right p q l.at ∙ l.here; of = l.of; low = l.low }
+
+careful_right : (order : ℕ) (p q : List Event) → IsCareful order q → (at space hint j : ℕ) → at ≡ length p + j → slice_get (p ++ q) at ≡ Some (enter_event space hint) →
+    (i : ℕ) × (seen : ℕ) × (i < at) × (slice_get (p ++ q) i ≡ Some (look_event space seen)) × (order < seen)
+careful_right order p q c at space hint j e h =
+    let found = c.shown j space hint (sym (get_right p q j) ∙ ap (λ (k : ℕ). slice_get (p ++ q) k) (sym e) ∙ h) in
+    (length p + found.0, found.1, omega (arith, found.2), get_right p q found.0 ∙ found.3, found.4)
+
+pub careful_both : (order : ℕ) (p q : List Event) → IsCareful order p → IsCareful order q → IsCareful order (p ++ q)
+careful_both order p q a b = record {
+  shown = λ at space hint h. elim (cases_lt at (length p)) [
+    | inl less ↦ let found = a.shown at space hint (sym (get_within p q at less) ∙ h) in
+        (found.0, found.1, found.2, get_left p q found.0 (look_event space found.1) found.3, found.4)
+    | inr more ↦ careful_right order p q b at space hint (at - length p) (omega arith) h
+  ];
+}
+
+pub careful_none : (order : ℕ) → IsCareful order []
+careful_none order = record { shown = λ at space hint h. cc }
+
+-- a look that showed enough, and the enter after it
+pub tried_entered : (order s hint found : ℕ) (refused : Bool) → order < hint → (IsTrue refused → found ≤ order) → IsTried order s refused (look_event s hint ∷ enter_event s found ∷ [])
+tried_entered order s hint found refused enough low = record {
+  careful = record { shown = after };
+  low = λ r. record { at = 1; event = enter_event s found; here = refl; of = refl; low = low r };
+}
+  where
+    after : (at space h : ℕ) → slice_get (look_event s hint ∷ enter_event s found ∷ []) at ≡ Some (enter_event space h) → (i : ℕ) × (seen : ℕ) × (i < at) × (slice_get (look_event s hint ∷ enter_event s found ∷ []) i ≡ Some (look_event space seen)) × (order < seen)
+    after zero space h e = let same : look_event s hint ≡ enter_event space h = cc in absurd (false≢true (ap (λ (x : Event). x.enters) same))
+    after (suc zero) space h e =
+        let ev : enter_event s found ≡ enter_event space h = cc in
+        let same : s ≡ space = ap (λ (x : Event). x.space) ev in
+        (0, hint, omega arith, ap (λ (x : ℕ). Some (look_event x hint)) same, enough)
+    after (suc (suc at)) space h e = cc
+
+pub searched_none : (order from : ℕ) → IsSearched order from from true []
+searched_none order from = record { careful = careful_none order; low = λ _ space low high. absurd (omega arith) }
+
+-- one space more
+pub searched_more : (order from s next : ℕ) (refused : Bool) (p q : List Event) → next ≡ s + 1 → IsSearched order from s true p → IsTried order s refused q → IsSearched order from next refused (p ++ q)
+searched_more order from s next refused p q e a b = record {
+  careful = careful_both order p q a.careful b.careful;
+  low = λ r space low high. elim (cases_eq space s) [
+    | inl same ↦ low_right space order p q (subst (λ (k : ℕ). IsLow k order q) (sym same) (b.low r))
+    | inr other ↦ low_left space order p q (a.low refl space low (omega arith))
+  ];
+}
+
+pub searched_found : (order from to s : ℕ) (p q : List Event) → IsSearched order from s true p → IsTried order s false q → IsSearched order from to false (p ++ q)
+searched_found order from to s p q a b = record {
+  careful = careful_both order p q a.careful b.careful;
+  low = λ r space low high. cc;
+}
+
+-- two searches that meet cover all
+pub searched_both : (order start count : ℕ) (refused : Bool) (p q : List Event) → start ≤ count → IsSearched order start count true p → IsSearched order 0 start refused q → IsSearched order 0 count refused (p ++ q)
+searched_both order start count refused p q fits a b = record {
+  careful = careful_both order p q a.careful b.careful;
+  low = λ r space low high. elim (cases_lt space start) [
+    | inl less ↦ low_right space order p q (b.low r space low less)
+    | inr more ↦ low_left space order p q (a.low refl space more high)
+  ];
+}
+
+pub searched_found_from : (order from to other end : ℕ) (p : List Event) → IsSearched order from to false p → IsSearched order other end false p
+searched_found_from order from to other end p a = record { careful = a.careful; low = λ r space low high. cc }
+
+pub enters_none : AreEnters []
+enters_none = record { each = λ at event h. cc }
+
+pub enters_more : (space : ℕ) (p q : List Event) → AreEnters p → IsEntered space q → AreEnters (p ++ q)
+enters_more space p q a (hint, e) = record {
+  each = λ at event h. elim (cases_lt at (length p)) [
+    | inl less ↦ a.each at event (sym (get_within p q at less) ∙ h)
+    | inr more ↦ last (at - length p) (let same : at ≡ length p + (at - length p) = omega arith in sym (ap (λ (l : List Event). slice_get l (at - length p)) e) ∙ sym (get_right p q (at - length p)) ∙ ap (λ (k : ℕ). slice_get (p ++ q) k) (sym same) ∙ h)
+  ];
+}
+  where
+    last : {event : Event} (j : ℕ) → slice_get (enter_event space hint ∷ []) j ≡ Some event → IsTrue event.enters
+    last {event} zero h = let same : enter_event space hint ≡ event = cc in sym (ap (λ (x : Event). x.enters) same)
+    last (suc j) h = cc

@@ -1,0 +1,64 @@
+-- What a grant over many spaces gives, and what it leaves.
+use Rattle.std.specs.Prelude.{◌≡◌, ℕ, ◌+◌, ◌-◌, ◌<◌, ◌≤◌, Bool, List, [], ◌∷◌, length, map, slice_index, slice_index_or, slice_get, slice_set, Option, Some, None}
+use Rattle.page_port.specs.Pages.{IsSized}
+use Rattle.layout_model.specs.Grants.{Spot}
+use Rattle.space_directory.specs.SpaceView.{SpaceView, granted, given}
+use Rattle.superdirectory.specs.Rest.{Frame, Rest}
+
+-- the told spaces are these, and none is away
+abbrev pub AreTold : Rest → List SpaceView → Type 0
+AreTold rest views = rest.spaces ≡ Some (map Some views)
+
+-- which pages are free in each space
+abbrev pub free_of : List SpaceView → List (List Bool)
+free_of views = map (λ v. v.free) views
+
+-- nothing but the spaces changed, and none is entered
+pub record IsAtRest (old new : Rest) : Type 0 where
+  pub frame : new.frame ≡ old.frame
+  pub entered : new.entered ≡ None
+
+-- the n pages lie in one space, and have its page size
+pub record IsSegmentIn (frame : Frame) (n space start : ℕ) (pages : List (List ℕ)) (tells : Bool) : Type 0 where
+  pub named : space < length frame.firsts
+  pub from : slice_index frame.firsts space ≤ start
+  pub to : start + n ≤ slice_index frame.firsts space + frame.pages
+  pub count : length pages ≡ n
+  pub sized : IsSized tells frame.page pages
+
+-- the spaces without the pages that a grant took at a spot
+abbrev pub taken : List SpaceView → Spot → ℕ → List SpaceView → Type 0
+taken views spot n after = (v : SpaceView) × (slice_index_or views spot.space v ≡ v) × (spot.space < length views) × (after ≡ slice_set views spot.space (granted v spot.at n))
+
+-- where `space` and `start` of the pages are those of the first of the visited spaces that has a place, and
+-- the told spaces lose these pages; or no visited space has a place, and they stay
+abbrev pub IsExact : List SpaceView → ℕ → Option Spot → Frame → Option (ℕ × ℕ) → Rest → Type 0
+IsExact views n None frame result new = (result ≡ None) × AreTold new views
+IsExact views n (Some spot) frame result new =
+    (result ≡ Some (spot.space, slice_index frame.firsts spot.space + spot.at)) × ((after : List SpaceView) × taken views spot n after × AreTold new after)
+
+-- n pages from `first` on, at least one, lie in this space
+pub record IsRunIn (frame : Frame) (space first n : ℕ) : Type 0 where
+  pub named : space < length frame.firsts
+  pub some : 1 ≤ n
+  pub from : slice_index frame.firsts space ≤ first
+  pub to : first + n ≤ slice_index frame.firsts space + frame.pages
+
+-- the told spaces are as before, but for one that is what the function makes of it
+pub record IsChanged (views : List SpaceView) (space : ℕ) (change : SpaceView → SpaceView) (new : Rest) : Type 0 where
+  pub was : SpaceView
+  pub here : slice_get views space ≡ Some was
+  pub now : AreTold new (slice_set views space (change was))
+
+-- the runs of a list, each a space, its first page and its pages, lie in their spaces
+abbrev pub AreRunsIn : {A : Type 0} → (A → ℕ) → (A → ℕ) → (A → List (List ℕ)) → Bool → Frame → List A → Type 0
+AreRunsIn space first pages tells frame [] = Unit {0}
+AreRunsIn space first pages tells frame (run ∷ runs) =
+    IsRunIn frame (space run) (first run) (length (pages run)) × IsSized tells frame.page (pages run) × AreRunsIn space first pages tells frame runs
+
+-- the told spaces once all runs of a list were given to theirs, the last run first
+abbrev pub IsGivenAll : {A : Type 0} → (A → ℕ) → (A → ℕ) → (A → List (List ℕ)) → List SpaceView → List A → List SpaceView → Type 0
+IsGivenAll space first pages before [] after = after ≡ before
+IsGivenAll space first pages before (run ∷ runs) after =
+    (between : List SpaceView) × IsGivenAll space first pages before runs between
+    × ((v : SpaceView) × (slice_get between (space run) ≡ Some v) × (after ≡ slice_set between (space run) (given v (first run - v.first) (length (pages run)))))

@@ -1,0 +1,116 @@
+//! Pages given back, locked and unlocked in the space that has them. None of these calls takes
+//! memory, and each enters one space.
+
+ghost use Rattle.std.specs.Prelude.{◌≡◌, ◌-◌, ◌<◌, ◌≤◌, length, List, [], None};
+ghost use Rattle.page_port.specs.Pages.{IsSized};
+ghost use Rattle.space_directory.specs.SpaceView.{SpaceView, given, locked_more, unlocked};
+ghost use Rattle.superdirectory.specs.Trace.{Part, IsEntered, AreEnters};
+ghost use Rattle.superdirectory.specs.Rest.{count};
+ghost use Rattle.superdirectory.specs.Grants.{AreTold, IsAtRest, IsRunIn, IsChanged, AreRunsIn, IsGivenAll};
+
+use crate::latches::Latches;
+use page_port::Span;
+use space_directory::Segment;
+
+/// Gives a segment's pages back to its space: they are free there, and not locked.
+pub fn give<S: Span, L: Latches<S>>(latches: &mut L, turn: &mut L::Turn, segment: Segment<S>)
+    requires none { (L.rest latches.old).entered ≡ None }
+    requires run { IsRunIn (L.rest latches.old).frame segment.space (S.start segment.span)
+        (length (S.contents segment.span)) }
+    requires sized { IsSized S.tells (L.rest latches.old).frame.page (S.contents segment.span) }
+    ensures rest { IsAtRest (L.rest latches.old) (L.rest latches.new) }
+    ensures trace { Part (IsEntered segment.space) (L.trace latches.old) (L.trace latches.new) }
+    ensures told { (views : List SpaceView) → AreTold (L.rest latches.old) views
+        → length views ≡ count (L.rest latches.old)
+        → IsChanged views segment.space (λ v. given v
+        (S.start segment.span - v.first) (length (S.contents segment.span))) (L.rest latches.new) }
+{
+    let s = segment.space;
+    let mut space = latches.enter(turn, s);
+    space.give(segment);
+    latches.leave(s, space);
+}
+
+/// Gives a segment's pages back that were locked.
+pub fn release<S: Span, L: Latches<S>>(latches: &mut L, turn: &mut L::Turn, segment: Segment<S>)
+    requires none { (L.rest latches.old).entered ≡ None }
+    requires run { IsRunIn (L.rest latches.old).frame segment.space (S.start segment.span)
+        (length (S.contents segment.span)) }
+    requires sized { IsSized S.tells (L.rest latches.old).frame.page (S.contents segment.span) }
+    ensures rest { IsAtRest (L.rest latches.old) (L.rest latches.new) }
+    ensures trace { Part (IsEntered segment.space) (L.trace latches.old) (L.trace latches.new) }
+    ensures told { (views : List SpaceView) → AreTold (L.rest latches.old) views
+        → length views ≡ count (L.rest latches.old)
+        → IsChanged views segment.space (λ v. given v
+        (S.start segment.span - v.first) (length (S.contents segment.span))) (L.rest latches.new) }
+{
+    let s = segment.space;
+    let mut space = latches.enter(turn, s);
+    space.give_locked(segment);
+    latches.leave(s, space);
+}
+
+/// Locks those of the `n` pages from `first` on of a space that aren't free.
+pub fn lock_run<S: Span, L: Latches<S>>(
+    latches: &mut L,
+    turn: &mut L::Turn,
+    s: u16,
+    first: u32,
+    n: u32,
+)
+    requires none { (L.rest latches.old).entered ≡ None }
+    requires run { IsRunIn (L.rest latches.old).frame s first n }
+    ensures rest { IsAtRest (L.rest latches.old) (L.rest latches.new) }
+    ensures trace { Part (IsEntered s) (L.trace latches.old) (L.trace latches.new) }
+    ensures told { (views : List SpaceView) → AreTold (L.rest latches.old) views
+        → length views ≡ count (L.rest latches.old)
+        → IsChanged views s (λ v. locked_more v (first - v.first) n) (L.rest latches.new) }
+{
+    let mut space = latches.enter(turn, s);
+    space.lock(first, n);
+    latches.leave(s, space);
+}
+
+/// Unlocks the `n` pages from `first` on of a space.
+pub fn unlock_run<S: Span, L: Latches<S>>(
+    latches: &mut L,
+    turn: &mut L::Turn,
+    s: u16,
+    first: u32,
+    n: u32,
+)
+    requires none { (L.rest latches.old).entered ≡ None }
+    requires run { IsRunIn (L.rest latches.old).frame s first n }
+    ensures rest { IsAtRest (L.rest latches.old) (L.rest latches.new) }
+    ensures trace { Part (IsEntered s) (L.trace latches.old) (L.trace latches.new) }
+    ensures told { (views : List SpaceView) → AreTold (L.rest latches.old) views
+        → length views ≡ count (L.rest latches.old)
+        → IsChanged views s (λ v. unlocked v (first - v.first) n) (L.rest latches.new) }
+{
+    let mut space = latches.enter(turn, s);
+    space.unlock(first, n);
+    latches.leave(s, space);
+}
+
+/// Gives each segment back to its space, and empties the list.
+pub fn give_all<S: Span, L: Latches<S>>(
+    latches: &mut L,
+    turn: &mut L::Turn,
+    segments: &mut Vec<Segment<S>>,
+)
+    requires none { (L.rest latches.old).entered ≡ None }
+    requires runs { AreRunsIn (λ g. g.space) (λ g. S.start g.span) (λ g. S.contents g.span) S.tells
+        (L.rest latches.old).frame segments.old.items }
+    ensures empty { segments.new.items ≡ [] }
+    ensures rest { IsAtRest (L.rest latches.old) (L.rest latches.new) }
+    ensures trace { Part AreEnters (L.trace latches.old) (L.trace latches.new) }
+    ensures told { (views : List SpaceView) → AreTold (L.rest latches.old) views
+        → length views ≡ count (L.rest latches.old)
+        → ((after : List SpaceView) × AreTold (L.rest latches.new) after
+        × IsGivenAll (λ g. g.space) (λ g. S.start g.span) (λ g. S.contents g.span)
+        views segments.old.items after) }
+{
+    while let Some(segment) = segments.pop() {
+        give(latches, turn, segment);
+    }
+}

@@ -1,0 +1,23 @@
+//! What is known of a space without entering it.
+
+ghost use Rattle.std.specs.Prelude.{◌↔◌, ◌<◌, IsTrue};
+
+/// The superdirectory entry of a space, an upper bound only: 0 says that no block is free, and
+/// `j + 1` that no free block has an order above `j`.
+#[derive(Clone, Copy, Debug, PartialEq, Eq)]
+pub struct Hint(pub u8);
+
+impl Hint {
+    /// Whether a block of this order may be free.
+    pub fn admits(self, order: u8) -> bool
+        ensures { IsTrue result ↔ (order < self.0) }
+    {
+        order < self.0
+    }
+}
+
+/// No space has a block for that many pages.
+#[derive(Clone, Copy, Debug, PartialEq, Eq)]
+pub struct NoSpace {
+    pub pages: u32,
+}
