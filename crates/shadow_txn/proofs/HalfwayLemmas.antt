@@ -93,7 +93,7 @@ match_step : {A : Type 0} {P P' : Type 0} {Q Q' : A → Type 0} (o : Option A) �
 match_step None f g fact = f fact
 match_step (Some a) f g fact = g a fact
 
-log_kept : (o : ℕ) (log : Option Log) → option_map (with_put o []) log ≡ log
+pub log_kept : (o : ℕ) (log : Option Log) → option_map (with_put o []) log ≡ log
 log_kept o None = refl
 log_kept o (Some g) = refl
 

@@ -1,10 +1,10 @@
 -- Held objects by number and by place.
-use Rattle.std.proofs.Common.{◌≡◌, ◌≢◌, ℕ, zero, suc, ◌+◌, ◌<◌, List, [], ◌∷◌, ◌++◌, length, take, drop, Bool, true, false, refl, ap, sym, ◌∙◌, subst, eq-eqb, inl, inr, arith, slice_get, slice_set, slice_index_or, nat_eq, Option, Some, None, if◌then◌else◌}
+use Rattle.std.proofs.Common.{◌≡◌, ◌≢◌, ℕ, zero, suc, ◌+◌, ◌<◌, ◌≤◌, ⊎_elim, List, [], ◌∷◌, ◌++◌, length, take, drop, Bool, true, false, refl, ap, sym, ◌∙◌, subst, eq-eqb, inl, inr, arith, slice_get, slice_set, slice_index_or, nat_eq, Option, Some, None, if◌then◌else◌}
 use Rattle.std.specs.Prelude.{remove, ◌==◌, ◌⊎◌, All, Result, Ok, Err, IfOk, OnErr}
-use Rattle.std.proofs.lemmas.Bool.{ne_eqb, eqb-true}
+use Rattle.std.proofs.lemmas.Bool.{ne_eqb, eqb-true, cases_eq}
 use Rattle.std.proofs.lemmas.List.{take_more, set-get_or}
 use Rattle.std.proofs.lemmas.Option.{slice_get_read}
-use Rattle.std.proofs.lemmas.List.Elements.{All-nil, All-cons}
+use Rattle.std.proofs.lemmas.List.Elements.{All-nil, All-cons, All-head, All-tail}
 use Rattle.shadow_txn.specs.declared.held.Held.{Held}
 use Rattle.shadow_txn.specs.Held.{object_in, with_object, without, IsPlace, AreDistinct}
 
@@ -127,7 +127,7 @@ AreDistinct-pop (k ∷ held) h apart =
     let other : nat_eq k.number h.number ≡ false = ne_eqb k.number h.number front.1 in
     ((front.0, rest.0), rw other rest.1)
 
-at_place : {T : Type 0} (held : List (Held T)) (o i : ℕ) (h : Held T) → IsPlace held o i → h ≡ slice_index_or held i h → (slice_get held i ≡ Some h) × (h.number ≡ o)
+pub at_place : {T : Type 0} (held : List (Held T)) (o i : ℕ) (h : Held T) → IsPlace held o i → h ≡ slice_index_or held i h → (slice_get held i ≡ Some h) × (h.number ≡ o)
 at_place held o i h place is =
     let found : slice_get held i ≡ Some h = slice_get_read held _ i h refl place.within is in
     (found, place.number h found)
@@ -242,3 +242,82 @@ pub object_in-none_before : {T : Type 0} (o q : ℕ) (y : T) (held : List (Held 
 object_in-none_before o q y [] none = none
 object_in-none_before o q y (k ∷ held) none =
     none_cases (k.number == o) k q y held (with_object o y held) (object_in-none_before o q y held) none
+
+later_cases : {T : Type 0} (c : Bool) (k : Held T) (q o : ℕ) (z : T) (r s : Option T) → nat_eq k.number q ≡ c → nat_eq k.number o ≡ false
+    → (r ≡ Some z → (q ≢ o) × (s ≡ Some z)) → (if c then Some k.object else r) ≡ Some z → (q ≢ o) × ((if c then Some k.object else s) ≡ Some z)
+later_cases true k q o z r s here other later found =
+    (λ same. let e : nat_eq k.number o ≡ true = eq-eqb k.number o (eqb-true k.number q here ∙ same) in cc, found)
+later_cases false k q o z r s here other later found = later found
+
+without_cases : {T : Type 0} (b : Bool) (k : Held T) (q o : ℕ) (z : T) (held rest : List (Held T)) → nat_eq k.number o ≡ b → object_in k.number held ≡ None
+    → (object_in q rest ≡ Some z → (q ≢ o) × (object_in q held ≡ Some z))
+    → object_in q (if b then held else k ∷ rest) ≡ Some z → (q ≢ o) × (object_in q (k ∷ held) ≡ Some z)
+without_cases true k q o z held rest at apart later found =
+    let differs : q ≢ k.number = λ same. let e = ap (λ n. object_in n held) same in cc in
+    let other : nat_eq k.number q ≡ false = ne_eqb k.number q (λ same. differs (sym same)) in
+    (λ same. differs (same ∙ sym (eqb-true k.number o at)), rw other found)
+without_cases false k q o z held rest at apart later found =
+    later_cases (nat_eq k.number q) k q o z (object_in q rest) (object_in q held) refl at later found
+
+-- what is held without o isn't o, and was held
+pub object_in-without : {T : Type 0} (o q : ℕ) (z : T) (held : List (Held T)) → AreDistinct held → object_in q (without o held) ≡ Some z → (q ≢ o) × (object_in q held ≡ Some z)
+object_in-without o q z [] apart found = absurd cc
+object_in-without o q z (k ∷ held) apart found =
+    without_cases (nat_eq k.number o) k q o z held (without o held) refl apart.0 (object_in-without o q z held apart.1) found
+
+none_later : {T : Type 0} (c : Bool) (q o : ℕ) (x : T) (r s : Option T) → (r ≡ None → (q ≡ o) ⊎ (s ≡ None))
+    → (if c then Some x else r) ≡ None → (q ≡ o) ⊎ ((if c then Some x else s) ≡ None)
+none_later true q o x r s later none = absurd cc
+none_later false q o x r s later none = later none
+
+without_none : {T : Type 0} (b : Bool) (k : Held T) (q o : ℕ) (held rest : List (Held T)) → nat_eq k.number o ≡ b
+    → (object_in q rest ≡ None → (q ≡ o) ⊎ (object_in q held ≡ None))
+    → object_in q (if b then held else k ∷ rest) ≡ None → (q ≡ o) ⊎ (object_in q (k ∷ held) ≡ None)
+without_none true k q o held rest at later none =
+    ⊎_elim (λ (same : q ≡ o). inl same)
+    (λ (other : q ≡ o → ⊥). let e : nat_eq k.number q ≡ false = ne_eqb k.number q (λ same. other (sym same ∙ eqb-true k.number o at)) in inr (rw e none))
+    (cases_eq q o)
+without_none false k q o held rest at later none = none_later (nat_eq k.number q) q o k.object (object_in q rest) (object_in q held) later none
+
+-- what isn't held without o is o, or wasn't held
+pub object_in-without_none : {T : Type 0} (o q : ℕ) (held : List (Held T)) → object_in q (without o held) ≡ None → (q ≡ o) ⊎ (object_in q held ≡ None)
+object_in-without_none o q [] none = inr none
+object_in-without_none o q (k ∷ held) none =
+    without_none (nat_eq k.number o) k q o held (without o held) refl (object_in-without_none o q held) none
+
+stays_none : {T : Type 0} (b : Bool) (k : Held T) (q : ℕ) (held rest : List (Held T)) → (object_in q held ≡ None → object_in q rest ≡ None)
+    → object_in q (k ∷ held) ≡ None → object_in q (if b then held else k ∷ rest) ≡ None
+stays_none true k q held rest later none = tail_passed (nat_eq k.number q) k.object _ none
+stays_none false k q held rest later none = past_head (nat_eq k.number q) k.object (object_in q held) (object_in q rest) None later none
+
+pub object_in-none_without : {T : Type 0} (o q : ℕ) (held : List (Held T)) → object_in q held ≡ None → object_in q (without o held) ≡ None
+object_in-none_without o q [] none = refl
+object_in-none_without o q (k ∷ held) none =
+    stays_none (nat_eq k.number o) k q held (without o held) (object_in-none_without o q held) none
+
+distinct_without : {T : Type 0} (b : Bool) (k : Held T) (held rest : List (Held T)) → AreDistinct held → object_in k.number rest ≡ None → AreDistinct rest
+    → AreDistinct (if b then held else k ∷ rest)
+distinct_without true k held rest apart none others = apart
+distinct_without false k held rest apart none others = (none, others)
+
+pub AreDistinct-without : {T : Type 0} (o : ℕ) (held : List (Held T)) → AreDistinct held → AreDistinct (without o held)
+AreDistinct-without o [] apart = tt
+AreDistinct-without o (k ∷ held) apart =
+    distinct_without (nat_eq k.number o) k held (without o held) apart.1 (object_in-none_without o k.number held apart.0) (AreDistinct-without o held apart.1)
+
+length_cases : {T : Type 0} (b : Bool) (k : Held T) (held rest : List (Held T)) → length rest ≤ length held → length (if b then held else k ∷ rest) ≤ length (k ∷ held)
+length_cases true k held rest later = omega arith
+length_cases false k held rest later = omega arith
+
+pub length-without : {T : Type 0} (o : ℕ) (held : List (Held T)) → length (without o held) ≤ length held
+length-without o [] = omega arith
+length-without o (k ∷ held) = length_cases (nat_eq k.number o) k held (without o held) (length-without o held)
+
+all_cases : {T : Type 0} (P : Held T → Type 0) (b : Bool) (k : Held T) (held rest : List (Held T)) → P k → All P held → All P rest → All P (if b then held else k ∷ rest)
+all_cases P true k held rest here all later = all
+all_cases P false k held rest here all later = All-cons P k rest here later
+
+pub All-without : {T : Type 0} (P : Held T → Type 0) (o : ℕ) (held : List (Held T)) → All P held → All P (without o held)
+All-without P o [] all = all
+All-without P o (k ∷ held) all =
+    all_cases P (nat_eq k.number o) k held (without o held) (All-head P k held all) (All-tail P k held all) (All-without P o held (All-tail P k held all))

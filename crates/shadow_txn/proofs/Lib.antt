@@ -1,5 +1,6 @@
 mod EndingLemmas
 mod HalfwayLemmas
 mod HeldLemmas
+mod LettingGoLemmas
 mod ServingLemmas
 mod TakingLemmas

@@ -1,10 +1,11 @@
 //! Taking an object, and letting it go without an end.
 
-ghost use Rattle.std.specs.Prelude.{◌≡◌, ◌≢◌, ◌<◌, ◌≤◌, ◌↔◌, ◌⊎◌, true, Err, Some, None, IfSome, IfOk, IfErr, OnOk, OnErr, IsOk, IsSome, length, slice_get};
-ghost use Rattle.object_locks.specs.Shelving.{Terms};
-ghost use Rattle.shadow_txn.specs.Held.{object_in};
+ghost use Rattle.std.specs.Prelude.{◌≡◌, ◌≢◌, ◌<◌, ◌≤◌, ◌↔◌, ◌⊎◌, true, Err, Some, None, [], IfSome, IfOk, IfErr, OnOk, OnErr, IsOk, IsSome, IsSomeAnd, length, slice_get};
+ghost use Rattle.object_locks.specs.Shelving.{Terms, IsPut};
+ghost use Rattle.shadow_txn.specs.Held.{object_in, without};
 ghost use Rattle.shadow_txn.specs.Serving.{Serves};
 ghost use Rattle.shadow_txn.specs.Taking.{IsTaken, Leaves, Holds, CanAsk};
+ghost use Rattle.shadow_txn.specs.Transaction.{holding};
 
 use crate::annals_room::make_room;
 use crate::held::place_of;
@@ -53,6 +54,23 @@ impl<H: Annals> Txn<H> {
             return Err(HoldFail::Full);
         }
         Ok(o as u32)
+    }
+
+    /// Puts object `o` back as it was taken, without an end. It takes no memory.
+    pub fn unhold<X: Shelf<PlainObject<H>>>(&mut self, shelf: &mut X, o: u64)
+        requires held { IsSomeAnd (object_in o self.old.held) (λ x. (x.working ≡ None) × (H.told x.annals ≡ None)) }
+        requires serves { Serves H.told H.last self.old (X.shelving shelf.old) }
+        requires terms { (t : Terms) × X.under shelf.old t × (t.frame ≡ []) }
+        ensures txn { self.new ≡ holding self.old (without o self.old.held) }
+        ensures put { IfSome (object_in o self.old.held) (λ x. IsPut (H.told x.annals) o x (X.shelving shelf.old) (X.shelving shelf.new)) }
+        ensures serves { Serves H.told H.last self.new (X.shelving shelf.new) }
+        ensures under { (t : Terms) → t.frame ≡ [] → X.under shelf.old t → X.under shelf.new t }
+    {
+        let Some(i) = place_of(&self.held, o) else {
+            unreachable!()
+        };
+        let Held { number, object } = self.held.remove(i);
+        shelf.put(number, object);
     }
 }
 

@@ -1,0 +1,62 @@
+-- An object that is let go without an end.
+use Rattle.std.proofs.Common.{◌≡◌, ◌≢◌, ℕ, ◌≤◌, ◌<◌, ◌^◌, List, [], length, false, refl, ap, sym, ◌∙◌, subst, arith, ⊎_elim, Option, Some, None}
+use Rattle.std.specs.Prelude.{IfSome, IsSomeAnd}
+use Rattle.std.specs.Option.{option_map, option_flatten}
+use Rattle.eos_ops.specs.declared.end.End.{End}
+use Rattle.object_locks.specs.Shelving.{Shelving, IsPut, with_put, added_ends}
+use Rattle.shadow_txn.specs.declared.held.Held.{Held}
+use Rattle.shadow_txn.specs.declared.plain_object.PlainObject.{PlainObject}
+use Rattle.shadow_txn.specs.Held.{object_in, without, AreDistinct}
+use Rattle.shadow_txn.specs.Serving.{IsPast, Serves}
+use Rattle.shadow_txn.specs.Transaction.{Transaction, holding, IsSound}
+use Rattle.shadow_txn.proofs.EndingLemmas.{unknown}
+use Rattle.shadow_txn.proofs.HalfwayLemmas.{log_kept}
+use Rattle.shadow_txn.proofs.HeldLemmas.{object_in-without, object_in-without_none, AreDistinct-without, length-without, All-without}
+use Rattle.shadow_txn.proofs.ServingLemmas.{if_some}
+
+pub sound-without : {T : Type 0} (spare last : T → ℕ) (capacity : ℕ) (t : Transaction T) (o : ℕ)
+    → IsSound spare last capacity t → IsSound spare last capacity (holding t (without o t.held))
+sound-without spare last capacity t o s = record {
+  session = s.session;
+  places = s.places;
+  few = omega (arith, length-without o t.held, s.few);
+  idle = λ idle. rw (s.idle idle) refl;
+  begun = s.begun;
+  number = s.number;
+  stamp = s.stamp;
+  left = s.left;
+  room = All-without (λ (h : Held _). 1 ≤ spare h.object) o t.held s.room;
+  lasts = All-without (λ (h : Held _). last h.object < 2 ^ 62) o t.held s.lasts;
+  present = All-without (λ (h : Held _). h.number < t.objects) o t.held s.present;
+  distinct = AreDistinct-without o t.held s.distinct;
+}
+
+pub serves-without : {H : Type 0} (told : H → Option (List End)) (last : H → ℕ) (t : Transaction (PlainObject H)) (o : ℕ) (x : PlainObject H) (old new : Shelving (PlainObject H))
+    → Serves told last t old → object_in o t.held ≡ Some x → told x.annals ≡ None → AreDistinct t.held → IsPut (told x.annals) o x old new
+    → Serves told last (holding t (without o t.held)) new
+serves-without told last t o x old new s held none apart put =
+    let log : new.log ≡ old.log =
+    put.log
+    ∙ ap (λ known. option_map (with_put o (added_ends (option_flatten known) (told x.annals))) old.log) (unknown told x (old.out o) none (s.came o x held))
+    ∙ log_kept o old.log in
+    record {
+      objects = put.same.objects ∙ s.objects;
+      session = if_some old.session new.session put.same.session (λ i own. own) s.session;
+      came = λ q z found.
+          let was = object_in-without o q z t.held apart found in
+          subst (λ out. IsSomeAnd out (λ known. IfSome known (λ ends. told z.annals ≡ Some ends))) (sym (put.others q was.0)) (s.came q z was.1);
+      just = if_some old.session new.session put.same.session
+          (λ i free q gone.
+          ⊎_elim
+          (λ (same : q ≡ o). ap new.out same ∙ put.gone)
+          (λ (was : object_in q t.held ≡ None). put.others q (λ same. let e = ap (λ n. object_in n t.held) same in cc) ∙ free q was)
+          (object_in-without_none o q t.held gone))
+          s.just;
+      past = if_some old.log new.log log
+          (λ g past. record {
+            seen = λ q z found. past.seen q z (object_in-without o q z t.held apart found).1;
+            number = past.number;
+            stamp = past.stamp;
+          })
+          s.past;
+    }
