@@ -13,6 +13,8 @@ mod fails;
 mod held;
 mod hold;
 mod plain_object;
+#[cfg(test)]
+mod tests;
 mod txn;
 
 pub use fails::{BeginFail, HoldFail, TxnFail};
