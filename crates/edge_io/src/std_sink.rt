@@ -1,5 +1,8 @@
-//! A sink over a writer of the standard library, which tells nothing of its bytes.
-ghost use Rattle.std.specs.Prelude.{◌≡◌, None};
+//! A sink over a writer of the standard library, which tells nothing of its bytes. What the writer itself
+//! tells is said of each write.
+ghost use Rattle.std.specs.Prelude.{◌≡◌, ℕ, ◌<◌, ◌≤◌, length, take, None, IfOk, OnErr};
+ghost use Rattle.std.specs.Io.KnownBytes.{Appends, Keeps};
+ghost use Rattle.edge_io.specs.Cause.{HasCause};
 
 use crate::sink::{Sink, SinkFail};
 use std::io::Write;
@@ -25,7 +28,18 @@ impl<W: Write> Sink for StdSink<W> {
 
     ghost faults = { λ s. s.faults };
 
-    fn write(&mut self, bytes: &[u8]) -> Result<usize, SinkFail> {
+    fn write(&mut self, bytes: &[u8]) -> Result<usize, SinkFail>
+        requires { 0 < length bytes.now }
+        ensures some { IfOk result (λ n. 0 < n) }
+        ensures within { IfOk result (λ n. n ≤ length bytes.now) }
+        ensures cause { HasCause self.old.faults self.new.faults (result ≡ Err SinkFail.Fault) }
+
+        // The writer holds the first n bytes more, where it tells what it holds; after a fault none.
+        ensures appends { IfOk result (λ n. Appends (W.contents self.old.writer) (W.contents self.new.writer)
+            (take n bytes.now)) }
+        ensures stays { OnErr result (Keeps (W.contents self.old.writer) (W.contents self.new.writer)) }
+        ensures fault { OnErr result (result ≡ Err SinkFail.Fault) }
+    {
         match self.writer.write(bytes) {
             Ok(count) if count > 0 => Ok(count),
             _ => {

@@ -46,6 +46,17 @@ impl Acts {
         items
     }
 
+    /// Adds an act.
+    pub fn push(&mut self, act: Act) -> Result<(), AllocError>
+        ensures ok { OnOk result (self.new ≡ self.old ++ act ∷ []) }
+        ensures err { OnErr result (self.new ≡ self.old) }
+    {
+        match self.items.push(act) {
+            Ok(()) => Ok(()),
+            Err(_) => Err(AllocError),
+        }
+    }
+
     /// All acts, where they lie.
     pub fn as_slice(&self) -> &[Act]
         ensures { result.now ≡ self.now }

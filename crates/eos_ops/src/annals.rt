@@ -1,6 +1,6 @@
 //! What is written down of the ends of transactions.
 
-ghost use Rattle.std.specs.Prelude.{◌≡◌, ℕ, ◌+◌, ◌<◌, ◌≤◌, ◌^◌, ◌↔◌, ◌∷◌, [], ◌++◌, List, Option, IsTrue, IsSome, IfSome, OnOk, OnErr, length};
+ghost use Rattle.std.specs.Prelude.{◌≡◌, ℕ, ◌+◌, ◌<◌, ◌≤◌, ◌^◌, ◌↔◌, ◌∷◌, [], ◌++◌, List, Option, Bool, is_some, IsTrue, IsSome, IfSome, OnOk, OnErr, length};
 ghost use Rattle.std.specs.Option.{option_map, option_map_or};
 ghost use Rattle.eos_ops.specs.Ends.{last_stamp_of};
 
@@ -20,6 +20,9 @@ pub trait Annals: Drop + Send {
     /// For how many more ends there is room.
     ghost spare: { Self → ℕ };
 
+    /// Whether the ends are told, which is one answer for all values.
+    ghost tells: { Bool };
+
     /// No ends.
     fn start(alloc: Global) -> Self
         ensures told { IfSome (told result) (λ ends. ends ≡ []) }
@@ -27,7 +30,8 @@ pub trait Annals: Drop + Send {
 
     /// Whether the ends are told. No call changes it.
     fn keeps(&self) -> bool
-        ensures { IsTrue result ↔ IsSome (told self.now) };
+        ensures told { IsTrue result ↔ IsSome (told self.now) }
+        ensures value { result ≡ tells };
 
     /// Makes room for `n` more ends.
     fn reserve(&mut self, n: usize) -> Result<(), AllocError>
@@ -56,4 +60,6 @@ pub trait Annals: Drop + Send {
     /// How many ends there were, where they are told, else 0.
     fn ends(&self) -> u64
         ensures { result ≡ option_map_or length (told self.now) 0 };
+
+    ghost tells_all: { (annals : Self) → is_some (told annals) ≡ tells };
 }

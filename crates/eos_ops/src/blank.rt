@@ -1,6 +1,6 @@
 //! Annals that keep the last stamp alone.
 
-ghost use Rattle.std.specs.Prelude.{◌≡◌, ℕ, ◌+◌, ◌<◌, ◌≤◌, ◌^◌, IsOk, None};
+ghost use Rattle.std.specs.Prelude.{◌≡◌, ℕ, ◌+◌, ◌<◌, ◌≤◌, ◌^◌, IsOk, None, false, refl};
 
 use crate::{Annals, End};
 use std::alloc::{AllocError, Global};
@@ -39,6 +39,10 @@ impl Annals for Blank {
 
     // It always has room for more ends than can be asked for.
     ghost spare = { λ _. 2 ^ 64 };
+
+    ghost tells = { false };
+
+    ghost tells_all = { λ _. refl };
 
     fn start(_alloc: Global) -> Blank {
         Blank::at(0)

@@ -1,6 +1,9 @@
-//! What a session may ask for.
+//! What a session may ask for, and what a command shows at a look.
 
-use crate::Payload;
+ghost use Rattle.std.specs.Prelude.{◌≡◌};
+ghost use Rattle.eos_ops.specs.Objects.{object_of, is_too_long as is_too_long_command};
+
+use crate::{MAX_TRANSFER, Payload};
 
 /// A command of one session. `object`, `at` and `len` count objects and bytes from 0.
 #[derive(Debug, Drop)]
@@ -56,4 +59,36 @@ pub enum Command {
     Abort,
     /// Asks for the counts of pages.
     Status,
+}
+
+impl Command {
+    /// The object that the command is on.
+    pub fn object(&self) -> Option<u64>
+        ensures { result ≡ object_of self.now }
+    {
+        match self {
+            Command::Create { object, .. }
+            | Command::Destroy { object }
+            | Command::Length { object }
+            | Command::Read { object, .. }
+            | Command::Append { object, .. }
+            | Command::Insert { object, .. }
+            | Command::Delete { object, .. }
+            | Command::Replace { object, .. } => Some(*object),
+            Command::Begin | Command::Commit | Command::Abort | Command::Status => None,
+        }
+    }
+
+    /// Whether the command brings a made payload, or asks for a read, above `MAX_TRANSFER`.
+    pub fn is_too_long(&self) -> bool
+        ensures { result ≡ is_too_long_command self.now }
+    {
+        match self {
+            Command::Read { len, .. } => *len > MAX_TRANSFER,
+            Command::Append { payload, .. }
+            | Command::Insert { payload, .. }
+            | Command::Replace { payload, .. } => payload.is_too_long(),
+            _ => false,
+        }
+    }
 }

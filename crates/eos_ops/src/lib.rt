@@ -15,11 +15,15 @@ mod bytes;
 mod command;
 mod edit;
 mod end;
+mod kept;
 mod limits;
+mod made;
 mod outcome;
 mod payload;
 mod plain;
 mod reply;
+#[cfg(test)]
+mod tests;
 
 pub use act::Act;
 pub use acts::Acts;
@@ -30,7 +34,9 @@ pub use bytes::Bytes;
 pub use command::Command;
 pub use edit::Edit;
 pub use end::End;
+pub use kept::Kept;
 pub use limits::{LAST_STAMP, MAX_HELD, MAX_TRANSFER, SESSIONS};
+pub use made::made_byte;
 pub use outcome::Outcome;
 pub use payload::Payload;
 pub use plain::Plain;

@@ -1,6 +1,9 @@
 //! The bytes that a command brings.
 
-use crate::Bytes;
+ghost use Rattle.std.specs.Prelude.{◌≡◌};
+ghost use Rattle.eos_ops.specs.Payloads.{is_long_payload};
+
+use crate::{Bytes, MAX_TRANSFER};
 
 /// What an append, an insert or a replace brings: bytes as they were given, or so many made ones.
 ///
@@ -9,4 +12,16 @@ use crate::Bytes;
 pub enum Payload {
     Given(Bytes),
     Made { len: u64, start: u32 },
+}
+
+impl Payload {
+    /// Whether it is made and longer than `MAX_TRANSFER`.
+    pub fn is_too_long(&self) -> bool
+        ensures { result ≡ is_long_payload self.now }
+    {
+        match self {
+            Payload::Given(_) => false,
+            Payload::Made { len, .. } => *len > MAX_TRANSFER,
+        }
+    }
 }

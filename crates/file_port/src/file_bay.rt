@@ -1,5 +1,5 @@
 //! A bay over a file.
-ghost use Rattle.std.specs.Prelude.{◌≡◌, IfOk, None};
+ghost use Rattle.std.specs.Prelude.{◌≡◌, IfOk, None, string_bytes};
 ghost use Rattle.file_port.specs.Files.{file_device};
 
 use crate::file_port::FilePort;
@@ -24,7 +24,8 @@ pub struct FileBay<R: Files<File = File> + Clone + Drop> {
 impl<R: Files<File = File> + Clone + Drop> FileBay<R> {
     /// The file at `path`. Nothing is opened yet.
     pub fn new(rt: R, alloc: Global, path: &str) -> Result<FileBay<R>, AllocError>
-        ensures { IfOk result (λ b. file_device b.mounted b.faults ≡ file_device None 0) }
+        ensures device { IfOk result (λ b. file_device b.mounted b.faults ≡ file_device None 0) }
+        ensures path { IfOk result (λ b. string_bytes b.path ≡ path.now) }
     {
         let path = String::from_str(alloc, path)?;
         Ok(FileBay {

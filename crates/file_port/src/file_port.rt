@@ -3,7 +3,7 @@ ghost use Rattle.std.specs.Prelude.{◌≡◌};
 ghost use Rattle.page_port.specs.Counts.{new_meter};
 
 use crate::file_span::FileSpan;
-use page_port::{DeviceFault, Port};
+use page_port::{DeviceFault, Port, counted};
 use std::fs::File;
 use std::os::unix::fs::FileExt;
 
@@ -58,7 +58,7 @@ impl Port for FilePort {
 
     fn read(&mut self, s: &FileSpan, from: u32, out: &mut [u8]) -> Result<(), DeviceFault> {
         let count = (out.len() / self.page as usize) as u64;
-        self.read = self.read.saturating_add(count);
+        self.read = counted(self.read, count);
         let at = s.byte(from, self.page);
         let Ok(()) = self.file.read_exact_at(out, at) else {
             self.faults = self.faults.saturating_add(1);
@@ -69,7 +69,7 @@ impl Port for FilePort {
 
     fn write(&mut self, s: &mut FileSpan, from: u32, bytes: &[u8]) -> Result<(), DeviceFault> {
         let count = (bytes.len() / self.page as usize) as u64;
-        self.written = self.written.saturating_add(count);
+        self.written = counted(self.written, count);
         let at = s.byte(from, self.page);
         let Ok(()) = self.file.write_all_at(bytes, at) else {
             self.faults = self.faults.saturating_add(1);

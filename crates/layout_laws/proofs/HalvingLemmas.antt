@@ -8,11 +8,11 @@ use Rattle.layout_model.specs.Grants.{Spaces, Spot, Answer, and_then, run_of, on
 use Rattle.layout_model.specs.Grants.Answer.{Got, Refused}
 use Rattle.layout_laws.specs.Halving.{runs_pages, AreLong, AreHalves}
 
-option_cases : {A : Type 0} (option : Option A) → (option ≡ None) ⊎ ((value : A) × (option ≡ Some value))
+pub option_cases : {A : Type 0} (option : Option A) → (option ≡ None) ⊎ ((value : A) × (option ≡ Some value))
 option_cases None = inl refl
 option_cases (Some value) = inr (value, refl)
 
-answer_cases : {A : Type 0} (answer : Answer A) →
+pub answer_cases : {A : Type 0} (answer : Answer A) →
     ((value : A) × (left : Spaces) × (answer ≡ Got value left)) ⊎ ((pages : ℕ) × (answer ≡ Refused pages))
 answer_cases (Got value left) = inl (value, left, refl)
 answer_cases (Refused pages) = inr (pages, refl)
@@ -22,7 +22,7 @@ test_cases true = inl refl
 test_cases false = inr refl
 
 -- so many pages as one run are granted whole, or refused
-alone_cases : (n : Numbers) (start pages : ℕ) (spaces : Spaces) →
+pub alone_cases : (n : Numbers) (start pages : ℕ) (spaces : Spaces) →
     ((page : ℕ) × (left : Spaces) × (and_then (run_of n start pages spaces) only ≡ Got (record { page = page; pages = pages } ∷ []) left))
     ⊎ (and_then (run_of n start pages spaces) only ≡ Refused pages)
 alone_cases n start pages spaces =
@@ -48,14 +48,14 @@ halves_join threshold a b pages first second adds left right = record {
 }
 
 -- a refusal is no grant
-no_grant : {A : Type 0} (pages : ℕ) (value : A) (left : Spaces) → Refused pages ≡ Got value left → ⊥
+pub no_grant : {A : Type 0} (pages : ℕ) (value : A) (left : Spaces) → Refused pages ≡ Got value left → ⊥
 no_grant pages value left same = cc
 
-got_same : {A : Type 0} (x y : A) (left rest : Spaces) → Got x left ≡ Got y rest → x ≡ y
+pub got_same : {A : Type 0} (x y : A) (left rest : Spaces) → Got x left ≡ Got y rest → x ≡ y
 got_same x y left rest same = cc
 
 -- what a cut part gets is what its halves get
-cut_got : (steps : ℕ) (n : Numbers) (start threshold pages : ℕ) (spaces left : Spaces) (runs : List Extent) →
+pub cut_got : (steps : ℕ) (n : Numbers) (start threshold pages : ℕ) (spaces left : Spaces) (runs : List Extent) →
     and_then (halved steps n start threshold ((pages + 1) / 2) spaces) (λ first rest.
     and_then (halved steps n start threshold (pages / 2) rest) (λ second more. Got (first ++ second) more)) ≡ Got runs left →
     (first : List Extent) × (second : List Extent) × (rest : Spaces) × (more : Spaces)

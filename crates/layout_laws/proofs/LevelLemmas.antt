@@ -17,14 +17,14 @@ test_cases true = inl refl
 test_cases false = inr refl
 
 -- the pairs of nodes beside each other
-pairs-append : (xs ys : List PageNode) → pairs_of (xs ++ ys) ≡ pairs_of xs ++ pairs_of ys
+pub pairs-append : (xs ys : List PageNode) → pairs_of (xs ++ ys) ≡ pairs_of xs ++ pairs_of ys
 pairs-append xs ys = flat_map-append (λ (node : PageNode). node.pairs) xs ys
 
-pairs-cons : (x : PageNode) (xs : List PageNode) → pairs_of (x ∷ xs) ≡ x.pairs ++ pairs_of xs
+pub pairs-cons : (x : PageNode) (xs : List PageNode) → pairs_of (x ∷ xs) ≡ x.pairs ++ pairs_of xs
 pairs-cons x xs = flat_map-cons (λ (node : PageNode). node.pairs) x xs
 
 -- the first n and the next m are the first n + m
-take-two : {A : Type 0} (n m : ℕ) (xs : List A) → take n xs ++ take m (drop n xs) ≡ take (n + m) xs
+pub take-two : {A : Type 0} (n m : ℕ) (xs : List A) → take n xs ++ take m (drop n xs) ≡ take (n + m) xs
 take-two n m xs =
     let short : n ≤ n + m = omega arith in
     let front = take-take n (n + m) xs short in
@@ -32,7 +32,7 @@ take-two n m xs =
     ∙ (ap (λ ys. take n (take (n + m) xs) ++ ys) (sym (drop-take n m xs)) ∙ take-append-drop n (take (n + m) xs))
 
 -- a list is its first n items, the next m, and the rest
-three : {A : Type 0} (n m : ℕ) (xs : List A) → take n xs ++ (take m (drop n xs) ++ drop (n + m) xs) ≡ xs
+pub three : {A : Type 0} (n m : ℕ) (xs : List A) → take n xs ++ (take m (drop n xs) ++ drop (n + m) xs) ≡ xs
 three n m xs =
     ap (λ ys. take n xs ++ (take m (drop n xs) ++ ys)) (sym (drop-drop m n xs))
     ∙ (ap (λ ys. take n xs ++ ys) (take-append-drop m (drop n xs)) ∙ take-append-drop n xs)
@@ -42,7 +42,7 @@ abbrev total : List ℕ → ℕ
 total ns = sum_by (λ n. n) ns
 
 -- nodes that are cut from a list have its first pairs, as many as their sizes together
-cut-pairs : (pages ns : List ℕ) (xs : List Pair) → pairs_of (on_pages pages (cut_into ns xs)) ≡ take (total ns) xs
+pub cut-pairs : (pages ns : List ℕ) (xs : List Pair) → pairs_of (on_pages pages (cut_into ns xs)) ≡ take (total ns) xs
 cut-pairs pages [] xs = refl
 cut-pairs [] (n ∷ ns) xs =
     pairs-cons (record { page = 0; pairs = take n xs }) (on_pages [] (cut_into ns (drop n xs)))
@@ -69,7 +69,7 @@ sizes-many m n some =
     omega (arith, joined, large, small, shared, whole)
 
 -- the pairs of a run of nodes, and of what stands before and after it
-level-parts : (nodes : List PageNode) (before count : ℕ) →
+pub level-parts : (nodes : List PageNode) (before count : ℕ) →
     pairs_of nodes ≡ pairs_of (take before nodes) ++ (pairs_of (take count (drop before nodes)) ++ pairs_of (drop (before + count) nodes))
 level-parts nodes before count =
     ap pairs_of (sym (three before count nodes))
@@ -93,9 +93,9 @@ splice_inside a m b fresh from count s at within =
     same ∙ sym whole
 
 -- a site has all replaced pairs: none stands before it, and none after it
-record Holds (nodes : List PageNode) (site : Site) (from count : ℕ) : Type 0 where
-  low : length (pairs_of (take site.before nodes)) ≤ from
-  high : from + count ≤ length (pairs_of (take (site.before + site.nodes) nodes))
+pub record Holds (nodes : List PageNode) (site : Site) (from count : ℕ) : Type 0 where
+  pub low : length (pairs_of (take site.before nodes)) ≤ from
+  pub high : from + count ≤ length (pairs_of (take (site.before + site.nodes) nodes))
 
 -- a level whose site is exchanged has the list splice of its pairs
 level_with-pairs : (f : ℕ) (nodes : List PageNode) (site : Site) (from count : ℕ) (fresh : List Pair) (pages : List ℕ) →
@@ -156,7 +156,7 @@ pub count-cons : (x : PageNode) (xs : List PageNode) → length (pairs_of (x ∷
 count-cons x xs = ap length (pairs-cons x xs) ∙ length-append x.pairs (pairs_of xs)
 
 -- before the node that has pair number `at` there are at most so many pairs
-before-low : (nodes : List PageNode) (at : ℕ) → length (pairs_of (take (node_at nodes at) nodes)) ≤ at
+pub before-low : (nodes : List PageNode) (at : ℕ) → length (pairs_of (take (node_at nodes at) nodes)) ≤ at
 before-low [] at = let none : 0 ≤ at = omega arith in none
 before-low (node ∷ rest) at =
     elim (test_cases (nat_lt at (length node.pairs))) [
@@ -175,7 +175,7 @@ before-low (node ∷ rest) at =
     ]
 
 -- and with it there are more
-through-high : (nodes : List PageNode) (at : ℕ) → at < length (pairs_of nodes) →
+pub through-high : (nodes : List PageNode) (at : ℕ) → at < length (pairs_of nodes) →
     at < length (pairs_of (take (suc (node_at nodes at)) nodes))
 through-high [] at inside = let none : at < 0 = inside in absurd (omega arith)
 through-high (node ∷ rest) at inside =
@@ -199,7 +199,7 @@ through-high (node ∷ rest) at inside =
     ]
 
 -- more nodes have no fewer pairs
-more-pairs : (k j : ℕ) (nodes : List PageNode) → k ≤ j → length (pairs_of (take k nodes)) ≤ length (pairs_of (take j nodes))
+pub more-pairs : (k j : ℕ) (nodes : List PageNode) → k ≤ j → length (pairs_of (take k nodes)) ≤ length (pairs_of (take j nodes))
 more-pairs k j nodes le =
     let parts : pairs_of (take j nodes) ≡ pairs_of (take k nodes) ++ pairs_of (drop k (take j nodes)) =
     ap pairs_of (sym (take-append-drop k (take j nodes)))
@@ -209,11 +209,11 @@ more-pairs k j nodes le =
     ap length parts ∙ length-append (pairs_of (take k nodes)) (pairs_of (drop k (take j nodes))) in
     omega (arith, counted)
 
-choice-below : (b : Bool) (from : ℕ) → cond b (from - 1) from ≤ from
+pub choice-below : (b : Bool) (from : ℕ) → cond b (from - 1) from ≤ from
 choice-below b from = elim b as (λ v. cond v (from - 1) from ≤ from) [ true ↦ omega arith | false ↦ omega arith ]
 
 -- the touched nodes have all replaced pairs
-touched-holds : (nodes : List PageNode) (from count : ℕ) → from + count ≤ length (pairs_of nodes) → Holds nodes (touched nodes from count) from count
+pub touched-holds : (nodes : List PageNode) (from count : ℕ) → from + count ≤ length (pairs_of nodes) → Holds nodes (touched nodes from count) from count
 touched-holds nodes from count within =
     let at = cond (nat_eq count 0) (from - 1) from in
     let least = choice-below (nat_eq count 0) from in
@@ -234,7 +234,7 @@ touched-holds nodes from count within =
     ]
 
 -- and so have they with the one that joins them
-joined-holds : (nodes : List PageNode) (site : Site) (from count : ℕ) → Holds nodes site from count → Holds nodes (joined nodes site) from count
+pub joined-holds : (nodes : List PageNode) (site : Site) (from count : ℕ) → Holds nodes site from count → Holds nodes (joined nodes site) from count
 joined-holds nodes site from count holds =
     let was_low = holds.low in
     let was_high = holds.high in
@@ -260,7 +260,7 @@ joined-holds nodes site from count holds =
           (record { low = omega (arith, fewer, was_low); high = omega (arith, more, was_high) })
     ]
 
-site_of-holds : (f : ℕ) (nodes : List PageNode) (from count : ℕ) (fresh : List Pair) → from + count ≤ length (pairs_of nodes) →
+pub site_of-holds : (f : ℕ) (nodes : List PageNode) (from count : ℕ) (fresh : List Pair) → from + count ≤ length (pairs_of nodes) →
     Holds nodes (site_of f nodes from count fresh) from count
 site_of-holds f nodes from count fresh within =
     let at = touched nodes from count in

@@ -13,12 +13,12 @@ test_cases true = inl refl
 test_cases false = inr refl
 
 -- two small neighbours are merged
-pack_from-merges : (size least : ℕ) (part next : Part) (rest : List Part) → (is_small size least part && is_small size least next) ≡ true →
+pub pack_from-merges : (size least : ℕ) (part next : Part) (rest : List Part) → (is_small size least part && is_small size least next) ≡ true →
     pack_from size least part (next ∷ rest) ≡ pack_from size least (Make (part_bytes part + part_bytes next)) rest
 pack_from-merges size least part next rest both = rw (both, pack_from)
 
 -- others aren't
-pack_from-keeps : (size least : ℕ) (part next : Part) (rest : List Part) → (is_small size least part && is_small size least next) ≡ false →
+pub pack_from-keeps : (size least : ℕ) (part next : Part) (rest : List Part) → (is_small size least part && is_small size least next) ≡ false →
     pack_from size least part (next ∷ rest) ≡ part ∷ pack_from size least next rest
 pack_from-keeps size least part next rest both = rw (both, pack_from)
 
@@ -47,7 +47,7 @@ pack-bytes size least [] = refl
 pack-bytes size least (part ∷ rest) = pack_from-bytes size least part rest
 
 -- a large part stays in front
-pack_from-large : (size least : ℕ) (part : Part) (rest : List Part) → is_small size least part ≡ false →
+pub pack_from-large : (size least : ℕ) (part : Part) (rest : List Part) → is_small size least part ≡ false →
     (tail : List Part) × (pack_from size least part rest ≡ part ∷ tail)
 pack_from-large size least part [] large = ([], refl)
 pack_from-large size least part (next ∷ rest) large =
@@ -55,7 +55,7 @@ pack_from-large size least part (next ∷ rest) large =
     (pack_from size least next rest, pack_from-keeps size least part next rest both)
 
 -- a large part may stand before any
-apart-large : (size least : ℕ) (part : Part) (parts : List Part) → is_small size least part ≡ false →
+pub apart-large : (size least : ℕ) (part : Part) (parts : List Part) → is_small size least part ≡ false →
     AreApart size least parts → AreApart size least (part ∷ parts)
 apart-large size least part [] large apart = tt
 apart-large size least part (next ∷ rest) large apart = (ap (λ b. b && is_small size least next) large, apart)

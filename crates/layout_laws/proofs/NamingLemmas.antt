@@ -9,7 +9,7 @@ use Rattle.layout_laws.specs.Naming.{AreNamed, HavePairs}
 use Rattle.layout_laws.proofs.LevelLemmas.{test_cases, count-cons, level-spliced, raised-head, levels_from-head}
 
 -- the node that has a pair is a node of the level
-node_at-within : (nodes : List PageNode) (at : ℕ) → at < length (pairs_of nodes) → node_at nodes at < length nodes
+pub node_at-within : (nodes : List PageNode) (at : ℕ) → at < length (pairs_of nodes) → node_at nodes at < length nodes
 node_at-within [] at inside = let none : at < 0 = inside in absurd (omega arith)
 node_at-within (node ∷ rest) at inside =
     elim (test_cases (nat_lt at (length node.pairs))) [
@@ -33,7 +33,7 @@ choice-inside : (from count size : ℕ) → 0 < size → from + count ≤ size �
 choice-inside from count size some within = grind (arith, nat_tests)
 
 -- the touched nodes are nodes of the level
-touched-within : (nodes : List PageNode) (from count : ℕ) → 0 < length (pairs_of nodes) → from + count ≤ length (pairs_of nodes) →
+pub touched-within : (nodes : List PageNode) (from count : ℕ) → 0 < length (pairs_of nodes) → from + count ≤ length (pairs_of nodes) →
     (touched nodes from count).before + (touched nodes from count).nodes ≤ length nodes
 touched-within nodes from count some within =
     let at = cond (nat_eq count 0) (from - 1) from in
@@ -44,7 +44,7 @@ touched-within nodes from count some within =
     let both : node_at nodes at + (suc (node_at nodes (from + count - 1)) - node_at nodes at) ≤ length nodes = omega (arith, first, last) in
     both
 
-joined-within : (nodes : List PageNode) (site : Site) → site.before + site.nodes ≤ length nodes → site.nodes < length nodes →
+pub joined-within : (nodes : List PageNode) (site : Site) → site.before + site.nodes ≤ length nodes → site.nodes < length nodes →
     (joined nodes site).before + (joined nodes site).nodes ≤ length nodes
 joined-within nodes site within left =
     let P : Site → Type 0 = λ s. s.before + s.nodes ≤ length nodes in
@@ -60,13 +60,13 @@ joined-within nodes site within left =
           subst P (sym step) fits
     ]
 
-last_test : (a b c : Bool) → (a && (b && c)) ≡ true → c ≡ true
+pub last_test : (a b c : Bool) → (a && (b && c)) ≡ true → c ≡ true
 last_test true true c all = all
 last_test true false c all = cc
 last_test false b c all = cc
 
 -- the nodes that are made anew are nodes of the level
-site_of-within : (f : ℕ) (nodes : List PageNode) (from count : ℕ) (fresh : List Pair) → 0 < length (pairs_of nodes) → from + count ≤ length (pairs_of nodes) →
+pub site_of-within : (f : ℕ) (nodes : List PageNode) (from count : ℕ) (fresh : List Pair) → 0 < length (pairs_of nodes) → from + count ≤ length (pairs_of nodes) →
     (site_of f nodes from count fresh).before + (site_of f nodes from count fresh).nodes ≤ length nodes
 site_of-within f nodes from count fresh some within =
     let at = touched nodes from count in
@@ -84,7 +84,7 @@ site_of-within f nodes from count fresh some within =
     ]
 
 -- the names of a level with a site exchanged
-names-with : (nodes : List PageNode) (site : Site) (made : List PageNode) →
+pub names-with : (nodes : List PageNode) (site : Site) (made : List PageNode) →
     take site.before (map pair_of nodes) ++ (map pair_of made ++ drop (site.before + site.nodes) (map pair_of nodes))
     ≡ map pair_of (take site.before nodes ++ (made ++ drop (site.before + site.nodes) nodes))
 names-with nodes site made =
@@ -94,7 +94,7 @@ names-with nodes site made =
     ∙ sym (map-append pair_of (take site.before nodes) (made ++ drop (site.before + site.nodes) nodes))))
 
 -- the level above a new one names its nodes
-names-step : (f : ℕ) (nodes up : List PageNode) (site : Site) (made : List PageNode) (pages : List ℕ) → 0 < f →
+pub names-step : (f : ℕ) (nodes up : List PageNode) (site : Site) (made : List PageNode) (pages : List ℕ) → 0 < f →
     site.before + site.nodes ≤ length nodes → pairs_of up ≡ map pair_of nodes →
     pairs_of (level_after f up site.before site.nodes (map pair_of made) pages).nodes
     ≡ map pair_of (take site.before nodes ++ (made ++ drop (site.before + site.nodes) nodes))
@@ -126,11 +126,11 @@ raised-named (suc steps) f below pages some =
           subst P (sym whole) (named, above)
     ]
 
-levels_from-top : (f : ℕ) (below : NewLevel) (up : List PageNode) (old : List (List PageNode)) (pages : List ℕ) → is_top below ≡ true →
+pub levels_from-top : (f : ℕ) (below : NewLevel) (up : List PageNode) (old : List (List PageNode)) (pages : List ℕ) → is_top below ≡ true →
     levels_from f below (up ∷ old) pages ≡ below ∷ []
 levels_from-top f below up old pages top = rw (top, levels_from)
 
-levels_from-more : (f : ℕ) (below : NewLevel) (up : List PageNode) (old : List (List PageNode)) (pages : List ℕ) → is_top below ≡ false →
+pub levels_from-more : (f : ℕ) (below : NewLevel) (up : List PageNode) (old : List (List PageNode)) (pages : List ℕ) → is_top below ≡ false →
     levels_from f below (up ∷ old) pages ≡ below ∷ levels_from f
     (level_after f up below.from below.count (map pair_of below.made) (drop (length below.made) pages)) old (drop (length below.made) pages)
 levels_from-more f below up old pages more = rw (more, levels_from)

@@ -1,10 +1,10 @@
 -- How large the numbers of a store get.
-use Rattle.std.proofs.Common.{◌≡◌, ℕ, ◌+◌, ◌-◌, ◌*◌, ◌/◌, ◌%◌, ◌^◌, ◌<◌, ◌≤◌, List, Option, Some, None, inl, inr, arith, mul-le-mul_right, ap, sym, ◌∙◌, ◌&&◌, nat_le, nat_lt}
+use Rattle.std.proofs.Common.{◌≡◌, ℕ, ◌+◌, ◌-◌, ◌*◌, ◌/◌, ◌%◌, ◌^◌, ◌<◌, ◌≤◌, Some, None, inl, inr, arith}
 use Rattle.std.proofs.Math.Pow.{pow_mono}
 use Rattle.std.proofs.lemmas.Bool.Decides.{leb_tells, nat_tests}
-use Rattle.std.proofs.lemmas.Nat.{mul-le, div_below}
+use Rattle.std.proofs.lemmas.Nat.{mul-le}
 use Rattle.geometry_model.specs.Numbers.{Numbers, IsInRange, space_pages, pages}
-use Rattle.geometry_model.specs.Pages.{place, directory_page}
+use Rattle.geometry_model.specs.Pages.{place}
 use Rattle.geometry_model.proofs.PageLaws.{place-catalog}
 use Rattle.geometry_model.proofs.NumberLaws.{page_size-high, space_pages-high}
 

@@ -75,9 +75,10 @@ impl Geometry {
         })
     }
 
-    /// The bytes of a page.
+    /// The bytes of a page. Who asks for them learns that all numbers are in range.
     pub fn page(&self) -> u32
-        ensures { result ≡ self.now.page }
+        ensures exact { result ≡ self.now.page }
+        ensures range { IsInRange self.now }
     {
         self.page
     }

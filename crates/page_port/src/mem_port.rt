@@ -3,6 +3,7 @@ ghost use Rattle.std.specs.Prelude.{◌≡◌, ◌+◌, ◌/◌, ◌≤◌, ◌<
 ghost use Rattle.page_port.specs.Counts.{new_meter};
 ghost use Rattle.page_port.specs.Memory.{Calls, Channel};
 
+use crate::count::counted;
 use crate::mem_span::MemSpan;
 use crate::port::{DeviceFault, Port};
 use crate::schedule::Schedule;
@@ -70,7 +71,7 @@ impl Port for MemPort {
     fn read(&mut self, s: &MemSpan, from: u32, out: &mut [u8]) -> Result<(), DeviceFault> {
         let size = self.page as usize;
         let count = (out.len() / size) as u64;
-        self.read = self.read.saturating_add(count);
+        self.read = counted(self.read, count);
         if self.reads.next() {
             self.faults = self.faults.saturating_add(1);
             return Err(DeviceFault);
@@ -82,7 +83,7 @@ impl Port for MemPort {
     fn write(&mut self, s: &mut MemSpan, from: u32, bytes: &[u8]) -> Result<(), DeviceFault> {
         let size = self.page as usize;
         let count = (bytes.len() / size) as u64;
-        self.written = self.written.saturating_add(count);
+        self.written = counted(self.written, count);
         if self.writes.next() {
             self.faults = self.faults.saturating_add(1);
             return Err(DeviceFault);

@@ -31,6 +31,7 @@ pub trait Port: Drop + Send {
             out.new ≡ run_bytes from (length out.old / (meter self.old).page) (Self.S.contents s.now)) }
         ensures counts { meter self.new ≡ after_read (meter self.old)
             (length out.old / (meter self.old).page) (meter self.new).faults }
+        ensures kept { (meter self.old).read ≤ (meter self.new).read }
         ensures cause { HasCause (meter self.old).faults (meter self.new).faults (IsErr result) };
 
     /// Writes whole pages, from page `from` of the span on. After an error the pages of the range may
@@ -47,6 +48,7 @@ pub trait Port: Drop + Send {
             run_bytes from (length bytes.now / (meter self.old).page) (Self.S.contents s.new) ≡ bytes.now) }
         ensures counts { meter self.new ≡ after_write (meter self.old)
             (length bytes.now / (meter self.old).page) (meter self.new).faults }
+        ensures kept { (meter self.old).written ≤ (meter self.new).written }
         ensures cause { HasCause (meter self.old).faults (meter self.new).faults (IsErr result) };
 
     /// Counts a fault of the device that a layer above found: a page that doesn't hold what was written

@@ -16,9 +16,10 @@ mod reply;
 mod verb;
 mod words;
 
+pub use eos_ops::made_byte;
 pub use laws::a_text_is_one_line;
 pub use line::{LineFail, read_line};
-pub use made::{made_byte, payload};
+pub use made::payload;
 pub use reply::{write_no_line, write_reply};
 pub use script_model::Line;
 

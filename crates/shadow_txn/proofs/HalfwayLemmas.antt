@@ -1,16 +1,18 @@
 -- Objects that go home one after the other, from the last on.
-use Rattle.std.proofs.Common.{◌≡◌, ◌≢◌, ℕ, zero, suc, ◌<◌, List, [], ◌∷◌, ◌++◌, length, Bool, true, false, refl, ap, sym, ◌∙◌, subst, arith, ⊎_elim, Option, Some, None, slice_get, slice_set}
-use Rattle.std.specs.Prelude.{IfSome, MatchOption, All}
-use Rattle.std.specs.Option.{option_map, option_flatten}
+use Rattle.std.proofs.Common.{◌≡◌, ◌≢◌, append-nil, append_assoc, ℕ, zero, suc, ◌<◌, List, [], ◌∷◌, ◌++◌, length, refl, ap, sym, ◌∙◌, subst, arith, ⊎_elim, Option, Some, None, slice_get, slice_set}
+use Rattle.std.specs.Prelude.{IfSome, MatchOption}
+use Rattle.std.specs.Option.{option_map, option_map_or, option_flatten}
 use Rattle.std.proofs.lemmas.Bool.{cases_eq}
 use Rattle.std.proofs.lemmas.List.{length-set}
 use Rattle.std.proofs.lemmas.Option.{slice_get_within}
+use Rattle.eos_ops.specs.declared.act.Act.{Act}
 use Rattle.eos_ops.specs.declared.end.End.{End}
 use Rattle.object_locks.specs.Shelving.{Shelving, Log, IsSameShelf, IsPut, with_put, added_ends}
 use Rattle.shadow_txn.specs.declared.held.Held.{Held}
-use Rattle.shadow_txn.specs.Ending.{IsSameAt, IsEndedAt, IsEnding}
-use Rattle.shadow_txn.specs.Held.{object_in, AreDistinct}
-use Rattle.shadow_txn.proofs.HeldLemmas.{object_in-append, object_in-append_some, object_in-one, object_in-self, AreDistinct-pop}
+use Rattle.shadow_txn.specs.Ending.{IsSameAt, IsEndedAt, IsEnding, made_ends, with_puts}
+use Rattle.shadow_txn.specs.Held.{object_in, acts_in, AreDistinct}
+use Rattle.shadow_txn.proofs.HeldLemmas.{object_in-append, object_in-append_some, object_in-one, object_in-self, acts_in-last, AreDistinct-pop}
+use Rattle.shadow_txn.proofs.ServingLemmas.{if_some}
 
 pub slice_get-set_same : {X : Type 0} (xs : List X) (i : ℕ) (x : X) → i < length xs → slice_get (slice_set xs i x) i ≡ Some x
 slice_get-set_same [] i x within = absurd (omega arith)
@@ -24,13 +26,19 @@ slice_get-set_other (y ∷ ys) zero (suc j) x other = refl
 slice_get-set_other (y ∷ ys) (suc i) zero x other = refl
 slice_get-set_other (y ∷ ys) (suc i) (suc j) x other = slice_get-set_other ys i j x (λ e. other (ap suc e))
 
--- what stands of the objects when all but `rest` are home
-pub record IsHalfway {T : Type 0} (Ended : T → T → Type 0) (held rest : List (Held T)) (old now : Shelving T) : Type 0 where
+-- What stands of the objects when all but `rest` are home: those that have gone, with their ends.
+pub record IsHalfway {T : Type 0} (Ended : ℕ → T → T → Type 0) (end : List Act → End) (held rest : List (Held T)) (old now : Shelving T) : Type 0 where
   pub same : IsSameShelf old now
   pub left : (q : ℕ) (x : T) → object_in q rest ≡ Some x → IsSameAt q old now × (object_in q held ≡ Some x)
-  pub done : (q : ℕ) → object_in q rest ≡ None → MatchOption (object_in q held) (IsSameAt q old now) (λ x. IsEndedAt Ended q x now)
+  pub done : (q : ℕ) → object_in q rest ≡ None → MatchOption (object_in q held) (IsSameAt q old now) (λ x. IsEndedAt (Ended q) q x now)
   pub count : option_map length now.home ≡ option_map length old.home
-  pub log : now.log ≡ old.log
+  pub gone : List (Held T)
+  pub whole : held ≡ rest ++ gone
+  pub log : now.log ≡ option_map (with_puts (made_ends old.out end gone)) old.log
+
+pub match_step : {A : Type 0} {P P' : Type 0} {Q Q' : A → Type 0} (o : Option A) → (P → P') → ((a : A) → Q a → Q' a) → MatchOption o P Q → MatchOption o P' Q'
+match_step None f g fact = f fact
+match_step (Some a) f g fact = g a fact
 
 same_here : {T : Type 0} (q : ℕ) (s : Shelving T) → IsSameAt q s s
 same_here q s = record { out = refl; home = refl }
@@ -38,19 +46,53 @@ same_here q s = record { out = refl; home = refl }
 pub same_shelf : {T : Type 0} (s : Shelving T) → IsSameShelf s s
 same_shelf s = record { objects = refl; session = refl; table = refl }
 
+log_same : (log : Option Log) → log ≡ option_map (with_puts []) log
+log_same None = refl
+log_same (Some g) = refl
+
 -- nothing was put yet
-pub halfway-start : {T : Type 0} (Ended : T → T → Type 0) (held : List (Held T)) (s : Shelving T) → IsHalfway Ended held held s s
-halfway-start Ended held s = record {
+pub halfway-start : {T : Type 0} (Ended : ℕ → T → T → Type 0) (end : List Act → End) (held : List (Held T)) (s : Shelving T) → IsHalfway Ended end held held s s
+halfway-start Ended end held s = record {
   same = same_shelf s;
   left = λ q x found. (same_here q s, found);
   done = λ q none. rw none (same_here q s);
   count = refl;
-  log = refl;
+  gone = [];
+  whole = sym (append-nil held);
+  log = log_same s.log;
+}
+
+ended_as : {T : Type 0} (A B : T → T → Type 0) (o : ℕ) (x : T) (new : Shelving T) → ((y : T) → A x y → B x y) → IsEndedAt A o x new → IsEndedAt B o x new
+ended_as A B o x new step at = record {
+  out = at.out;
+  home = if_some new.home new.home refl (λ xs slots slot found. let y = slots slot found in (y.0, y.1, step y.0 y.2)) at.home;
 }
 
 -- all were put
-pub halfway-end : {T : Type 0} (Ended : T → T → Type 0) (held : List (Held T)) (old now : Shelving T) → IsHalfway Ended held [] old now → IsEnding Ended held old now
-halfway-end Ended held old now h = record { same = h.same; each = λ q. h.done q refl; count = h.count; log = h.log }
+pub halfway-end : {T : Type 0} (Ended : ℕ → T → T → Type 0) (As : T → T → Type 0) (end : List Act → End) (held : List (Held T)) (old now : Shelving T)
+    → ((q : ℕ) (x y : T) → Ended q x y → As x y) → IsHalfway Ended end held [] old now → IsEnding As held old now
+halfway-end Ended As end held old now step h = record {
+  same = h.same;
+  each = λ q. match_step (object_in q held) (λ same. same) (λ x at. ended_as (Ended q) As q x now (step q x) at) (h.done q refl);
+  count = h.count;
+}
+
+-- with their ends
+pub halfway-log : {T : Type 0} (Ended : ℕ → T → T → Type 0) (end : List Act → End) (held : List (Held T)) (old now : Shelving T)
+    → IsHalfway Ended end held [] old now → now.log ≡ option_map (with_puts (made_ends old.out end held)) old.log
+halfway-log Ended end held old now h = h.log ∙ ap (λ gone. option_map (with_puts (made_ends old.out end gone)) old.log) (sym h.whole)
+
+matched : {A : Type 0} (P : Type 0) (Q : A → Type 0) (r : Option A) (x : A) → r ≡ Some x → MatchOption r P Q → Q x
+matched P Q r x e fact = subst (λ o. MatchOption o P Q) e fact
+
+-- each that is home has ended
+pub halfway-home : {T : Type 0} (Ended : ℕ → T → T → Type 0) (end : List Act → End) (held : List (Held T)) (old now : Shelving T)
+    → IsHalfway Ended end held [] old now → (o : ℕ) (x : T) → object_in o held ≡ Some x → IfSome now.home (λ xs. (y : T) → slice_get xs o ≡ Some (Some y) → Ended o x y)
+halfway-home Ended end held old now h o x found =
+    let at = matched (IsSameAt o old now) (λ y. IsEndedAt (Ended o) o y now) (object_in o held) x found (h.done o refl) in
+    if_some now.home now.home refl
+    (λ xs slots y here. let z = slots (Some y) here in let same : y ≡ z.0 = cc in subst (Ended o x) (sym same) z.2)
+    at.home
 
 trans_at : {T : Type 0} (q : ℕ) (old now next : Shelving T) → IsSameAt q old now → IsSameAt q now next → IsSameAt q old next
 trans_at q old now next a b = record { out = b.out ∙ a.out; home = b.home ∙ a.home }
@@ -89,10 +131,6 @@ home_ended Ended q x (Some xs) (Some ys) e was = λ slot found. let same : slice
 ended_stays : {T : Type 0} (Ended : T → T → Type 0) (q : ℕ) (x : T) (now next : Shelving T) → IsSameAt q now next → IsEndedAt Ended q x now → IsEndedAt Ended q x next
 ended_stays Ended q x now next same was = record { out = same.out ∙ was.out; home = home_ended Ended q x now.home next.home same.home was.home }
 
-match_step : {A : Type 0} {P P' : Type 0} {Q Q' : A → Type 0} (o : Option A) → (P → P') → ((a : A) → Q a → Q' a) → MatchOption o P Q → MatchOption o P' Q'
-match_step None f g fact = f fact
-match_step (Some a) f g fact = g a fact
-
 pub log_kept : (o : ℕ) (log : Option Log) → option_map (with_put o []) log ≡ log
 log_kept o None = refl
 log_kept o (Some g) = refl
@@ -101,34 +139,65 @@ count_kept : {T : Type 0} (o : ℕ) (v : Option T) (home : Option (List (Option 
 count_kept o v None = refl
 count_kept o v (Some xs) = ap Some (length-set xs o v)
 
+with_puts-push : (made : List (ℕ × End)) (n : ℕ) (e : End) (g : Log) → with_put n (e ∷ []) (with_puts made g) ≡ with_puts (made ++ (n, e) ∷ []) g
+with_puts-push [] n e g = refl
+with_puts-push (one ∷ made) n e g = with_puts-push made n e (with_put one.0 (one.1 ∷ []) g)
+
+-- the past with one put more, of an object whose ends are known or not
+log_put : (known : Option (List End)) (n : ℕ) (e : End) (added : List End) (made : List (ℕ × End)) (log : Option Log)
+    → added ≡ option_map_or (λ _. e ∷ []) known []
+    → option_map (with_put n added) (option_map (with_puts made) log) ≡ option_map (with_puts (made ++ option_map_or (λ _. (n, e) ∷ []) known [])) log
+log_put known n e added made None is = refl
+log_put None n e added made (Some g) is = rw (is, append-nil made) refl
+log_put (Some was) n e added made (Some g) is = rw is (ap Some (with_puts-push made n e g))
+
 -- one object more goes home
-pub halfway-put : {T : Type 0} (Ended : T → T → Type 0) (ends : Option (List End)) (held rest : List (Held T)) (h : Held T) (y : T) (old now next : Shelving T)
-    → IsHalfway Ended held (rest ++ h ∷ []) old now → AreDistinct (rest ++ h ∷ []) → now.out h.number ≡ Some None
-    → IsPut ends h.number y now next → Ended h.object y → IsHalfway Ended held rest old next
-halfway-put Ended ends held rest h y old now next half apart out put end =
-    let gone : object_in h.number rest ≡ None = (AreDistinct-pop rest h apart).1 in
-    let mine : object_in h.number (rest ++ h ∷ []) ≡ Some h.object = object_in-append h.number rest (h ∷ []) gone ∙ object_in-self h in
+pub halfway-put : {T : Type 0} (Ended : ℕ → T → T → Type 0) (end : List Act → End) (ends : Option (List End)) (held rest : List (Held T)) (h : Held T) (y : T) (old now next : Shelving T)
+    → IsHalfway Ended end held (rest ++ h ∷ []) old now → AreDistinct (rest ++ h ∷ []) → IsPut ends h.number y now next
+    → added_ends (option_flatten (now.out h.number)) ends ≡ option_map_or (λ _. end h.acts ∷ []) (option_flatten (now.out h.number)) []
+    → Ended h.number h.object y → IsHalfway Ended end held rest old next
+halfway-put Ended end ends held rest h y old now next half apart put added ended =
+    let none : object_in h.number rest ≡ None = (AreDistinct-pop rest h apart).1 in
+    let mine : object_in h.number (rest ++ h ∷ []) ≡ Some h.object = object_in-append h.number rest (h ∷ []) none ∙ object_in-self h in
     let others : (q : ℕ) → q ≢ h.number → IsSameAt q now next = λ q other. put_other ends h.number q y now next put other in
+    let known : now.out h.number ≡ old.out h.number = (half.left h.number h.object mine).0.out in
     record {
       same = record { objects = put.same.objects ∙ half.same.objects; session = put.same.session ∙ half.same.session; table = put.same.table ∙ half.same.table };
       left = λ q x found.
           let other : q ≢ h.number = λ e. let at = ap (λ n. object_in n rest) e in cc in
           let was = half.left q x (object_in-append_some q rest (h ∷ []) x found) in
           (trans_at q old now next was.0 (others q other), was.1);
-      done = λ q none.
+      done = λ q gone.
           ⊎_elim
           (λ (e : q ≡ h.number).
           let was = half.left h.number h.object mine in
-          let here : MatchOption (object_in h.number held) (IsSameAt h.number old next) (λ x. IsEndedAt Ended h.number x next) =
-          rw was.1 (put_here Ended ends h.number h.object y now next put end) in
-          subst (λ n. MatchOption (object_in n held) (IsSameAt n old next) (λ x. IsEndedAt Ended n x next)) (sym e) here)
+          let here : MatchOption (object_in h.number held) (IsSameAt h.number old next) (λ x. IsEndedAt (Ended h.number) h.number x next) =
+          rw was.1 (put_here (Ended h.number) ends h.number h.object y now next put ended) in
+          subst (λ n. MatchOption (object_in n held) (IsSameAt n old next) (λ x. IsEndedAt (Ended n) n x next)) (sym e) here)
           (λ (other : q ≡ h.number → ⊥).
-          let last : object_in q (rest ++ h ∷ []) ≡ None = object_in-append q rest (h ∷ []) none ∙ object_in-one q h (λ e. other (sym e)) in
+          let last : object_in q (rest ++ h ∷ []) ≡ None = object_in-append q rest (h ∷ []) gone ∙ object_in-one q h (λ e. other (sym e)) in
           match_step (object_in q held)
           (λ was. trans_at q old now next was (others q other))
-          (λ x was. ended_stays Ended q x now next (others q other) was)
+          (λ x was. ended_stays (Ended q) q x now next (others q other) was)
           (half.done q last))
           (cases_eq q h.number);
       count = rw put.home (count_kept h.number (Some y) now.home) ∙ half.count;
-      log = put.log ∙ ap (λ known. option_map (with_put h.number (added_ends (option_flatten known) ends)) now.log) out ∙ log_kept h.number now.log ∙ half.log;
+      gone = h ∷ half.gone;
+      whole = half.whole ∙ append_assoc rest (h ∷ []) half.gone;
+      log =
+          put.log ∙ ap (option_map (with_put h.number (added_ends (option_flatten (now.out h.number)) ends))) half.log
+          ∙ log_put (option_flatten (now.out h.number)) h.number (end h.acts) _ (made_ends old.out end half.gone) old.log added
+          ∙ ap (λ out. option_map (with_puts (made_ends old.out end half.gone ++ option_map_or (λ _. (h.number, end h.acts) ∷ []) (option_flatten out) [])) old.log) known;
     }
+
+-- the last of those that are left, as it was held
+pub halfway-found : {T : Type 0} (Ended : ℕ → T → T → Type 0) (end : List Act → End) (held rest : List (Held T)) (h : Held T) (old now : Shelving T)
+    → IsHalfway Ended end held (rest ++ h ∷ []) old now → AreDistinct (rest ++ h ∷ []) → object_in h.number held ≡ Some h.object
+halfway-found Ended end held rest h old now half apart =
+    (half.left h.number h.object (object_in-append h.number rest (h ∷ []) (AreDistinct-pop rest h apart).1 ∙ object_in-self h)).1
+
+-- and the acts on it
+pub halfway-acts : {T : Type 0} (Ended : ℕ → T → T → Type 0) (end : List Act → End) (held rest : List (Held T)) (h : Held T) (old now : Shelving T)
+    → IsHalfway Ended end held (rest ++ h ∷ []) old now → AreDistinct (rest ++ h ∷ []) → acts_in h.number held ≡ h.acts
+halfway-acts Ended end held rest h old now half apart =
+    ap (acts_in h.number) half.whole ∙ acts_in-last rest half.gone h (AreDistinct-pop rest h apart).1

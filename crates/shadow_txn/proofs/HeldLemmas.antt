@@ -1,12 +1,14 @@
 -- Held objects by number and by place.
-use Rattle.std.proofs.Common.{◌≡◌, ◌≢◌, ℕ, zero, suc, ◌+◌, ◌<◌, ◌≤◌, ⊎_elim, List, [], ◌∷◌, ◌++◌, length, take, drop, Bool, true, false, refl, ap, sym, ◌∙◌, subst, eq-eqb, inl, inr, arith, slice_get, slice_set, slice_index_or, nat_eq, Option, Some, None, if◌then◌else◌}
+use Rattle.std.proofs.Common.{◌≡◌, append-nil, ◌≢◌, ℕ, zero, suc, ◌+◌, ◌<◌, ◌≤◌, ⊎_elim, List, [], ◌∷◌, ◌++◌, length, take, Bool, true, false, refl, ap, sym, ◌∙◌, eq-eqb, inl, inr, arith, slice_get, slice_set, slice_index_or, nat_eq, Option, Some, None, if◌then◌else◌}
 use Rattle.std.specs.Prelude.{remove, ◌==◌, ◌⊎◌, All, Result, Ok, Err, IfOk, OnErr}
 use Rattle.std.proofs.lemmas.Bool.{ne_eqb, eqb-true, cases_eq}
 use Rattle.std.proofs.lemmas.List.{take_more, set-get_or}
 use Rattle.std.proofs.lemmas.Option.{slice_get_read}
 use Rattle.std.proofs.lemmas.List.Elements.{All-nil, All-cons, All-head, All-tail}
+use Rattle.eos_ops.specs.declared.act.Act.{Act}
+use Rattle.shadow_txn.specs.Transaction.{Transaction, holding, noting}
 use Rattle.shadow_txn.specs.declared.held.Held.{Held}
-use Rattle.shadow_txn.specs.Held.{object_in, with_object, without, IsPlace, AreDistinct}
+use Rattle.shadow_txn.specs.Held.{object_in, acts_in, with_object, with_acts, without, IsPlace, AreDistinct, done_to}
 
 -- what a search that passes its first item finds is what it finds behind it
 past_head : {T : Type 0} (b : Bool) (x : T) (r s t : Option T) → (r ≡ None → s ≡ t) → (if b then Some x else r) ≡ None → (if b then Some x else s) ≡ t
@@ -52,12 +54,12 @@ object_in-more xs i o h within is none other =
 -- another value of an object, by place
 pub with_object-place : {T : Type 0} (held : List (Held T)) (o i : ℕ) (h : Held T) (x : T)
     → slice_get held i ≡ Some h → h.number ≡ o → object_in o (take i held) ≡ None
-    → with_object o x held ≡ slice_set held i (record { number = h.number; object = x })
+    → with_object o x held ≡ slice_set held i (record { number = h.number; object = x; acts = h.acts })
 with_object-place [] o i h x found same first = absurd cc
 with_object-place (k ∷ held) o zero h x found same first =
     let e : k ≡ h = cc in
     let n : nat_eq k.number o ≡ true = eq-eqb k.number o (ap (λ (u : Held _). u.number) e ∙ same) in
-    rw n (ap (λ (u : Held _). record { number = u.number; object = x } ∷ held) e)
+    rw n (ap (λ (u : Held _). record { number = u.number; object = x; acts = u.acts } ∷ held) e)
 with_object-place (k ∷ held) o (suc i) h x found same first =
     let n : nat_eq k.number o ≡ false = head_passed (k.number == o) k.object _ first in
     rw n (ap (λ hs. k ∷ hs) (with_object-place held o i h x found same (tail_passed (k.number == o) k.object _ first)))
@@ -139,7 +141,7 @@ object_in-at held o i h place is =
 
 -- a write at its place
 pub with_object-at : {T : Type 0} (held : List (Held T)) (o i : ℕ) (h : Held T) (x : T)
-    → IsPlace held o i → h ≡ slice_index_or held i h → slice_set held i (record { number = h.number; object = x }) ≡ with_object o x held
+    → IsPlace held o i → h ≡ slice_index_or held i h → slice_set held i (record { number = h.number; object = x; acts = h.acts }) ≡ with_object o x held
 with_object-at held o i h x place is =
     let at = at_place held o i h place is in sym (with_object-place held o i h x at.0 at.1 place.first)
 
@@ -150,7 +152,7 @@ without-at held o i h place is =
 
 changed_none : {T : Type 0} (b : Bool) (q : ℕ) (k : Held T) (x : T) (held changed : List (Held T))
     → object_in q (k ∷ held) ≡ None → object_in q changed ≡ None
-    → object_in q (if b then record { number = k.number; object = x } ∷ held else k ∷ changed) ≡ None
+    → object_in q (if b then record { number = k.number; object = x; acts = k.acts } ∷ held else k ∷ changed) ≡ None
 changed_none true q k x held changed none rest =
     let other : nat_eq k.number q ≡ false = head_passed (k.number == q) k.object _ none in
     rw other (tail_passed (k.number == q) k.object _ none)
@@ -165,7 +167,7 @@ object_in-with_object_none o q x (k ∷ held) none =
 
 distinct_changed : {T : Type 0} (b : Bool) (k : Held T) (x : T) (held changed : List (Held T))
     → object_in k.number held ≡ None → AreDistinct held → object_in k.number changed ≡ None → AreDistinct changed
-    → AreDistinct (if b then record { number = k.number; object = x } ∷ held else k ∷ changed)
+    → AreDistinct (if b then record { number = k.number; object = x; acts = k.acts } ∷ held else k ∷ changed)
 distinct_changed true k x held changed none apart rest others = (none, apart)
 distinct_changed false k x held changed none apart rest others = (rest, others)
 
@@ -177,7 +179,7 @@ AreDistinct-with_object o x (k ∷ held) apart =
     (object_in-with_object_none o k.number x held apart.0) (AreDistinct-with_object o x held apart.1)
 
 -- a write of what stands there
-pub set-same : {T : Type 0} (held : List (Held T)) (i : ℕ) (h : Held T) → h ≡ slice_index_or held i h → slice_set held i (record { number = h.number; object = h.object }) ≡ held
+pub set-same : {T : Type 0} (held : List (Held T)) (i : ℕ) (h : Held T) → h ≡ slice_index_or held i h → slice_set held i (record { number = h.number; object = h.object; acts = h.acts }) ≡ held
 set-same held i h is = ap (λ k. slice_set held i k) is ∙ set-get_or held i h
 
 -- what an answer says goes over to what follows from it
@@ -212,7 +214,7 @@ with_later false q o x y z r s later found = later found
 
 with_cases : {T : Type 0} (b : Bool) (k : Held T) (q o : ℕ) (y z : T) (held changed : List (Held T)) → (b ≡ true → k.number ≡ o)
     → (object_in q changed ≡ Some z → ((q ≡ o) × (z ≡ y)) ⊎ (object_in q held ≡ Some z))
-    → object_in q (if b then record { number = k.number; object = y } ∷ held else k ∷ changed) ≡ Some z
+    → object_in q (if b then record { number = k.number; object = y; acts = k.acts } ∷ held else k ∷ changed) ≡ Some z
     → ((q ≡ o) × (z ≡ y)) ⊎ (object_in q (k ∷ held) ≡ Some z)
 with_cases true k q o y z held changed at later found =
     with_here (k.number == q) q o k.object y z (object_in q held) (λ c. sym (eqb-true k.number q c) ∙ at refl) found
@@ -233,7 +235,7 @@ none_here false x y s none = none
 
 none_cases : {T : Type 0} (b : Bool) (k : Held T) (q : ℕ) (y : T) (held changed : List (Held T))
     → (object_in q changed ≡ None → object_in q held ≡ None)
-    → object_in q (if b then record { number = k.number; object = y } ∷ held else k ∷ changed) ≡ None → object_in q (k ∷ held) ≡ None
+    → object_in q (if b then record { number = k.number; object = y; acts = k.acts } ∷ held else k ∷ changed) ≡ None → object_in q (k ∷ held) ≡ None
 none_cases true k q y held changed later none = none_here (k.number == q) k.object y (object_in q held) none
 none_cases false k q y held changed later none = past_head (k.number == q) k.object (object_in q changed) (object_in q held) None later none
 
@@ -321,3 +323,79 @@ pub All-without : {T : Type 0} (P : Held T → Type 0) (o : ℕ) (held : List (H
 All-without P o [] all = all
 All-without P o (k ∷ held) all =
     all_cases P (nat_eq k.number o) k held (without o held) (All-head P k held all) (All-tail P k held all) (All-without P o held (All-tail P k held all))
+
+-- acts more on an object, by place
+with_acts-place : {T : Type 0} (held : List (Held T)) (o i : ℕ) (h : Held T) (acts : List Act)
+    → slice_get held i ≡ Some h → h.number ≡ o → object_in o (take i held) ≡ None → with_acts o acts held ≡ slice_set held i (done_to h h.object acts)
+with_acts-place [] o i h acts found same first = absurd cc
+with_acts-place (k ∷ held) o zero h acts found same first =
+    let e : k ≡ h = cc in
+    let n : nat_eq k.number o ≡ true = eq-eqb k.number o (ap (λ (u : Held _). u.number) e ∙ same) in
+    rw n (ap (λ (u : Held _). done_to u u.object acts ∷ held) e)
+with_acts-place (k ∷ held) o (suc i) h acts found same first =
+    let n : nat_eq k.number o ≡ false = head_passed (k.number == o) k.object _ first in
+    rw n (ap (λ hs. k ∷ hs) (with_acts-place held o i h acts found same (tail_passed (k.number == o) k.object _ first)))
+
+-- another value of an object, and acts more on it, by place
+done_to-place : {T : Type 0} (held : List (Held T)) (o i : ℕ) (h : Held T) (x : T) (acts : List Act)
+    → slice_get held i ≡ Some h → h.number ≡ o → object_in o (take i held) ≡ None → with_acts o acts (with_object o x held) ≡ slice_set held i (done_to h x acts)
+done_to-place [] o i h x acts found same first = absurd cc
+done_to-place (k ∷ held) o zero h x acts found same first =
+    let e : k ≡ h = cc in
+    let n : nat_eq k.number o ≡ true = eq-eqb k.number o (ap (λ (u : Held _). u.number) e ∙ same) in
+    rw (n, n) (ap (λ (u : Held _). done_to u x acts ∷ held) e)
+done_to-place (k ∷ held) o (suc i) h x acts found same first =
+    let n : nat_eq k.number o ≡ false = head_passed (k.number == o) k.object _ first in
+    rw (n, n) (ap (λ hs. k ∷ hs) (done_to-place held o i h x acts found same (tail_passed (k.number == o) k.object _ first)))
+
+pub done_to-at : {T : Type 0} (held : List (Held T)) (o i : ℕ) (h : Held T) (x : T) (acts : List Act)
+    → IsPlace held o i → h ≡ slice_index_or held i h → slice_set held i (done_to h x acts) ≡ with_acts o acts (with_object o x held)
+done_to-at held o i h x acts place is =
+    let at = at_place held o i h place is in sym (done_to-place held o i h x acts at.0 at.1 place.first)
+
+-- acts noted at the place of their object
+pub noting-same : {T : Type 0} (t : Transaction T) (o i : ℕ) (h : Held T) (acts : List Act)
+    → IsPlace t.held o i → h ≡ slice_index_or t.held i h → holding t (slice_set t.held i (done_to h h.object acts)) ≡ noting o acts t
+noting-same t o i h [] place is =
+    ap (λ more. holding t (slice_set t.held i (record { number = h.number; object = h.object; acts = more }))) (append-nil h.acts)
+    ∙ ap (holding t) (set-same t.held i h is)
+noting-same t o i h (a ∷ acts) place is =
+    let at = at_place t.held o i h place is in ap (holding t) (sym (with_acts-place t.held o i h (a ∷ acts) at.0 at.1 place.first))
+
+-- the same with another value of the object
+pub noting-object : {T : Type 0} (t : Transaction T) (o i : ℕ) (h : Held T) (x : T) (acts : List Act)
+    → IsPlace t.held o i → h ≡ slice_index_or t.held i h → holding t (slice_set t.held i (done_to h x acts)) ≡ noting o acts (holding t (with_object o x t.held))
+noting-object t o i h x [] place is =
+    ap (λ more. holding t (slice_set t.held i (record { number = h.number; object = x; acts = more }))) (append-nil h.acts)
+    ∙ ap (holding t) (with_object-at t.held o i h x place is)
+noting-object t o i h x (a ∷ acts) place is = ap (holding t) (done_to-at t.held o i h x (a ∷ acts) place is)
+
+acts_passed : {T : Type 0} (b : Bool) (q : ℕ) (k : Held T) (acts : List Act) (held changed : List (Held T)) → object_in q changed ≡ object_in q held
+    → object_in q (if b then done_to k k.object acts ∷ held else k ∷ changed) ≡ object_in q (k ∷ held)
+acts_passed true q k acts held changed same = refl
+acts_passed false q k acts held changed same = ap (λ r. if k.number == q then Some k.object else r) same
+
+-- acts change no object
+pub object_in-with_acts : {T : Type 0} (o q : ℕ) (acts : List Act) (held : List (Held T)) → object_in q (with_acts o acts held) ≡ object_in q held
+object_in-with_acts o q acts [] = refl
+object_in-with_acts o q acts (k ∷ held) =
+    acts_passed (k.number == o) q k acts held (with_acts o acts held) (object_in-with_acts o q acts held)
+
+distinct_acts : {T : Type 0} (b : Bool) (k : Held T) (acts : List Act) (held changed : List (Held T))
+    → object_in k.number held ≡ None → AreDistinct held → object_in k.number changed ≡ None → AreDistinct changed
+    → AreDistinct (if b then done_to k k.object acts ∷ held else k ∷ changed)
+distinct_acts true k acts held changed none apart rest others = (none, apart)
+distinct_acts false k acts held changed none apart rest others = (rest, others)
+
+pub AreDistinct-with_acts : {T : Type 0} (o : ℕ) (acts : List Act) (held : List (Held T)) → AreDistinct held → AreDistinct (with_acts o acts held)
+AreDistinct-with_acts o acts [] apart = tt
+AreDistinct-with_acts o acts (k ∷ held) apart =
+    distinct_acts (k.number == o) k acts held (with_acts o acts held) apart.0 apart.1
+    (object_in-with_acts o k.number acts held ∙ apart.0) (AreDistinct-with_acts o acts held apart.1)
+
+-- the acts on an object that isn't among those before it
+pub acts_in-last : {T : Type 0} (rest gone : List (Held T)) (h : Held T) → object_in h.number rest ≡ None → acts_in h.number ((rest ++ h ∷ []) ++ gone) ≡ h.acts
+acts_in-last [] gone h none = let same : nat_eq h.number h.number ≡ true = eq-eqb h.number h.number refl in rw same refl
+acts_in-last (k ∷ rest) gone h none =
+    let other : nat_eq k.number h.number ≡ false = head_passed (k.number == h.number) k.object _ none in
+    rw other (acts_in-last rest gone h (tail_passed (k.number == h.number) k.object _ none))

@@ -1,22 +1,24 @@
 -- An object that is let go without an end.
-use Rattle.std.proofs.Common.{◌≡◌, ◌≢◌, ℕ, ◌≤◌, ◌<◌, ◌^◌, List, [], length, false, refl, ap, sym, ◌∙◌, subst, arith, ⊎_elim, Option, Some, None}
+use Rattle.std.proofs.Common.{◌≡◌, ℕ, ◌≤◌, ◌<◌, ◌^◌, List, [], append-nil, Bool, refl, ap, sym, ◌∙◌, subst, arith, ⊎_elim, Option, Some, None}
 use Rattle.std.specs.Prelude.{IfSome, IsSomeAnd}
 use Rattle.std.specs.Option.{option_map, option_flatten}
+use Rattle.std.proofs.Math.Seq.{drop-length}
+use Rattle.std.proofs.lemmas.List.Elements.{All-nil}
+use Rattle.eos_ops.specs.declared.act.Act.{Act}
 use Rattle.eos_ops.specs.declared.end.End.{End}
-use Rattle.object_locks.specs.Shelving.{Shelving, IsPut, with_put, added_ends}
+use Rattle.object_locks.specs.Shelving.{Shelving, Terms, IsPut, MayReturn, MayAdd, with_put, added_ends}
 use Rattle.shadow_txn.specs.declared.held.Held.{Held}
 use Rattle.shadow_txn.specs.declared.plain_object.PlainObject.{PlainObject}
 use Rattle.shadow_txn.specs.Held.{object_in, without, AreDistinct}
-use Rattle.shadow_txn.specs.Serving.{IsPast, Serves}
+use Rattle.shadow_txn.specs.Serving.{Serves, Agree}
 use Rattle.shadow_txn.specs.Transaction.{Transaction, holding, IsSound}
-use Rattle.shadow_txn.proofs.EndingLemmas.{unknown}
 use Rattle.shadow_txn.proofs.HalfwayLemmas.{log_kept}
 use Rattle.shadow_txn.proofs.HeldLemmas.{object_in-without, object_in-without_none, AreDistinct-without, length-without, All-without}
-use Rattle.shadow_txn.proofs.ServingLemmas.{if_some}
+use Rattle.shadow_txn.proofs.ServingLemmas.{if_some, agree-kept}
 
-pub sound-without : {T : Type 0} (spare last : T → ℕ) (capacity : ℕ) (t : Transaction T) (o : ℕ)
-    → IsSound spare last capacity t → IsSound spare last capacity (holding t (without o t.held))
-sound-without spare last capacity t o s = record {
+pub sound-without : {T : Type 0} (spare last : T → ℕ) (Made : T → List Act → Type 0) (capacity : ℕ) (t : Transaction T) (o : ℕ)
+    → IsSound spare last Made capacity t → IsSound spare last Made capacity (holding t (without o t.held))
+sound-without spare last Made capacity t o s = record {
   session = s.session;
   places = s.places;
   few = omega (arith, length-without o t.held, s.few);
@@ -29,15 +31,34 @@ sound-without spare last capacity t o s = record {
   lasts = All-without (λ (h : Held _). last h.object < 2 ^ 62) o t.held s.lasts;
   present = All-without (λ (h : Held _). h.number < t.objects) o t.held s.present;
   distinct = AreDistinct-without o t.held s.distinct;
+  made = All-without (λ (h : Held _). Made h.object h.acts) o t.held s.made;
+}
+
+-- the ends that an object came with are no new ones
+none_added : (out : Option (Option (List End))) (ends : Option (List End)) → IsSomeAnd out (λ known. IfSome known (λ was. ends ≡ Some was))
+    → added_ends (option_flatten out) ends ≡ []
+none_added None ends came = absurd came
+none_added (Some None) ends came = refl
+none_added (Some (Some was)) ends came = rw came (drop-length was)
+
+pub may_return : {T : Type 0} (out : Option (Option (List End))) (ends : Option (List End)) (shelf : Shelving T) → IsSomeAnd out (λ known. IfSome known (λ was. ends ≡ Some was))
+    → IsSomeAnd out (MayReturn ends shelf)
+may_return None ends shelf came = came
+may_return (Some None) ends shelf came = tt
+may_return (Some (Some was)) ends shelf came = record {
+  added = [];
+  grown = came ∙ ap Some (sym (append-nil was));
+  one = omega arith;
+  each = All-nil (MayAdd shelf);
 }
 
 pub serves-without : {H : Type 0} (told : H → Option (List End)) (last : H → ℕ) (t : Transaction (PlainObject H)) (o : ℕ) (x : PlainObject H) (old new : Shelving (PlainObject H))
-    → Serves told last t old → object_in o t.held ≡ Some x → told x.annals ≡ None → AreDistinct t.held → IsPut (told x.annals) o x old new
+    → Serves told last t old → object_in o t.held ≡ Some x → AreDistinct t.held → IsPut (told x.annals) o x old new
     → Serves told last (holding t (without o t.held)) new
-serves-without told last t o x old new s held none apart put =
+serves-without told last t o x old new s held apart put =
     let log : new.log ≡ old.log =
     put.log
-    ∙ ap (λ known. option_map (with_put o (added_ends (option_flatten known) (told x.annals))) old.log) (unknown told x (old.out o) none (s.came o x held))
+    ∙ ap (λ added. option_map (with_put o added) old.log) (none_added (old.out o) (told x.annals) (s.came o x held))
     ∙ log_kept o old.log in
     record {
       objects = put.same.objects ∙ s.objects;
@@ -60,3 +81,9 @@ serves-without told last t o x old new s held none apart put =
           })
           s.past;
     }
+
+-- the terms are kept
+pub agree-without : {H : Type 0} (tells : Bool) (told : H → Option (List End)) (terms : Terms) (o : ℕ) (held : List (Held (PlainObject H)))
+    → AreDistinct held → Agree tells told terms held → Agree tells told terms (without o held)
+agree-without tells told terms o held apart fits =
+    agree-kept tells told terms held (without o held) (λ q y found. (y, (object_in-without o q y held apart found).1, refl, refl)) fits

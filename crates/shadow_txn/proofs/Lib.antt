@@ -1,6 +1,8 @@
+mod ActLemmas
+mod BenchLemmas
 mod EndingLemmas
 mod HalfwayLemmas
-mod HeldLemmas
+pub mod HeldLemmas
 mod LettingGoLemmas
 mod ServingLemmas
 mod TakingLemmas

@@ -1,12 +1,12 @@
 -- What a refusal leaves of the shelf.
-use Rattle.std.proofs.Common.{◌≡◌, ◌≢◌, ℕ, ◌<◌, ◌≤◌, ◌^◌, List, Option, refl, arith, ⊎_elim, sym, subst}
+use Rattle.std.proofs.Common.{◌≡◌, ◌≢◌, ℕ, ◌≤◌, ◌^◌, List, Option, refl, arith, ⊎_elim, subst}
 use Rattle.std.specs.Prelude.{◌↔◌, ◌⊎◌}
 use Rattle.eos_ops.specs.declared.end.End.{End}
-use Rattle.object_locks.specs.Shelving.{Shelving, IsTake, IsPut}
+use Rattle.object_locks.specs.Shelving.{Shelving}
 use Rattle.shadow_txn.specs.declared.fails.HoldFail.{HoldFail}
 use Rattle.shadow_txn.specs.declared.fails.HoldFail.TheVariants.{NoObject, Full, Busy, Worn, Memory}
 use Rattle.shadow_txn.specs.declared.plain_object.PlainObject.{PlainObject}
-use Rattle.shadow_txn.specs.Taking.{IsSameObject, IsReturned, Leaves}
+use Rattle.shadow_txn.specs.Taking.{IsReturned, Leaves}
 
 -- an object that was put back as it was, since its stamp was the last, or for want of memory
 pub leaves_returned : {H : Type 0} (told : H → Option (List End)) (last : H → ℕ) (fail : HoldFail) (o at : ℕ) (old new : Shelving (PlainObject H))

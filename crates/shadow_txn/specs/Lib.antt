@@ -1,3 +1,4 @@
+pub mod Acts
 pub mod Ending
 pub mod Held
 pub mod Objects

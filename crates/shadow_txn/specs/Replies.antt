@@ -1,5 +1,5 @@
 -- What a transaction answers on a held object, as a reply.
-use Rattle.std.specs.Prelude.{ℕ, List, Option, Some, None, Ok, Err, Result}
+use Rattle.std.specs.Prelude.{ℕ, List, Ok, Err, Result}
 use Rattle.std.specs.Option.{option_map_or}
 use Rattle.eos_ops.specs.declared.plain.Plain.{Plain}
 use Rattle.eos_ops.specs.declared.plain.Plain.TheVariants.{Absent}

@@ -1,9 +1,12 @@
 -- When a shelf serves a transaction: what its calls ask for, and keep.
-use Rattle.std.specs.Prelude.{◌≡◌, ℕ, ◌+◌, ◌-◌, ◌≤◌, List, Option, Some, None, IfSome, IsSomeAnd}
+use Rattle.std.specs.Prelude.{◌≡◌, ℕ, ◌+◌, ◌-◌, ◌≤◌, List, [], Bool, true, false, Option, Some, None, IfSome, IsSomeAnd, slice_index_or}
 use Rattle.eos_ops.specs.declared.end.End.{End}
-use Rattle.object_locks.specs.Shelving.{Shelving, Log}
+use Rattle.eos_ops.specs.declared.plain.Plain.TheVariants.{Absent}
+use Rattle.object_locks.specs.Shelving.{Shelving, Terms, Log}
+use Rattle.shadow_txn.specs.declared.held.Held.{Held}
 use Rattle.shadow_txn.specs.declared.plain_object.PlainObject.{PlainObject}
 use Rattle.shadow_txn.specs.Held.{object_in}
+use Rattle.shadow_txn.specs.Objects.{IsLegalObject}
 use Rattle.shadow_txn.specs.Transaction.{Transaction, last_ended}
 
 -- The shelf's past allows the next end: it has seen the last stamps of all held objects, and that of the session
@@ -21,3 +24,12 @@ pub record Serves {H : Type 0} (told : H → Option (List End)) (last : H → �
   pub came : (o : ℕ) (x : PlainObject H) → object_in o txn.held ≡ Some x → IsSomeAnd (shelf.out o) (λ known. IfSome known (λ was. told x.annals ≡ Some was))
   pub just : IfSome shelf.session (λ _. (o : ℕ) → object_in o txn.held ≡ None → shelf.out o ≡ None)
   pub past : IfSome shelf.log (IsPast (λ x. last x.annals) txn)
+
+-- The ends of each held object, where they are told, lead from its contents at opening to its committed version.
+abbrev pub AreLegal : {H : Type 0} → (H → Option (List End)) → Terms → List (Held (PlainObject H)) → Type 0
+AreLegal {H} told t held = (o : ℕ) (x : PlainObject H) → object_in o held ≡ Some x → IsLegalObject told (slice_index_or t.opened o Absent) x
+
+-- The held objects keep the terms: objects in memory have no frame, and where ends are told they are legal.
+abbrev pub Agree : {H : Type 0} → Bool → (H → Option (List End)) → Terms → List (Held (PlainObject H)) → Type 0
+Agree false told t held = t.frame ≡ []
+Agree true told t held = (t.frame ≡ []) × AreLegal told t held

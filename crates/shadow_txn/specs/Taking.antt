@@ -1,5 +1,5 @@
 -- What taking an object makes of the shelf, by its answer.
-use Rattle.std.specs.Prelude.{◌≡◌, ℕ, ◌<◌, ◌≤◌, ◌^◌, List, [], ◌∷◌, ◌++◌, length, Option, Some, None, IfSome}
+use Rattle.std.specs.Prelude.{◌≡◌, ℕ, ◌<◌, ◌≤◌, ◌^◌, List, [], ◌∷◌, ◌++◌, length, Option, None, IfSome}
 use Rattle.eos_ops.specs.declared.end.End.{End}
 use Rattle.eos_ops.specs.declared.limits.TheConstants.{MAX_HELD}
 use Rattle.eos_ops.specs.Ends.{last_stamp_of}
@@ -45,11 +45,11 @@ Leaves told last Busy o old new = new ≡ refused_take o old
 Leaves told last Worn o old new = IsReturned told last o (2 ^ 62) old new
 Leaves told last Memory o old new = (stamp : ℕ) × (stamp < 2 ^ 62) × IsReturned told last o stamp old new
 
--- The transaction holds one object more, which came from the shelf.
+-- The transaction holds one object more, which came from the shelf, and has done nothing to it.
 pub record Holds {H : Type 0} (told : H → Option (List End)) (last spare : H → ℕ) (o : ℕ) (old new : Transaction (PlainObject H)) (before after : Shelving (PlainObject H)) : Type 0 where
   pub object : PlainObject H
   pub taken : IsTaken told last spare o object before after
-  pub held : new ≡ holding old (old.held ++ record { number = o; object = object } ∷ [])
+  pub held : new ≡ holding old (old.held ++ record { number = o; object = object; acts = [] } ∷ [])
 
 -- the shelf is asked for object o: it isn't held, there is such an object, and a place for it
 pub record CanAsk {T : Type 0} (o : ℕ) (txn : Transaction T) : Type 0 where

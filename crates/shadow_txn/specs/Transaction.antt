@@ -1,8 +1,9 @@
 -- A session's place for a transaction, as contracts see it.
 use Rattle.std.specs.Prelude.{◌≡◌, ℕ, ◌+◌, ◌-◌, ◌<◌, ◌≤◌, ◌^◌, max, List, [], ◌∷◌, length, All, Bool, true, false, if◌then◌else◌}
+use Rattle.eos_ops.specs.declared.act.Act.{Act}
 use Rattle.eos_ops.specs.declared.limits.TheConstants.{MAX_HELD}
 use Rattle.shadow_txn.specs.declared.held.Held.{Held}
-use Rattle.shadow_txn.specs.Held.{object_in, AreDistinct}
+use Rattle.shadow_txn.specs.Held.{with_acts, AreDistinct}
 
 -- Whose it is, over how many objects, whether a transaction is open, the number of the session's last transaction
 -- (the open one counts), its last stamp, and the objects that it holds, in the order in which they were taken.
@@ -26,6 +27,11 @@ begun t = record { session = t.session; objects = t.objects; is_open = true; num
 abbrev pub holding : {T : Type 0} → Transaction T → List (Held T) → Transaction T
 holding t held = record { session = t.session; objects = t.objects; is_open = t.is_open; number = t.number; stamp = t.stamp; held = held }
 
+-- these acts are noted on object o
+abbrev pub noting : {T : Type 0} → ℕ → List Act → Transaction T → Transaction T
+noting o [] t = t
+noting o (a ∷ acts) t = holding t (with_acts o (a ∷ acts) t.held)
+
 -- the transaction is over, with this stamp
 abbrev pub ended : {T : Type 0} → Transaction T → ℕ → Transaction T
 ended t stamp = record { session = t.session; objects = t.objects; is_open = false; number = t.number; stamp = stamp; held = [] }
@@ -44,8 +50,8 @@ abbrev pub end_stamp : {T : Type 0} → (T → ℕ) → Transaction T → ℕ
 end_stamp last t = max t.stamp (greatest_last last t.held) + 1
 
 -- What every place keeps: room for as many objects as may be held, room for one end in the annals of each that is,
--- and a stamp left for the end of an open transaction.
-pub record IsSound {T : Type 0} (spare last : T → ℕ) (capacity : ℕ) (t : Transaction T) : Type 0 where
+-- a stamp left for the end of an open transaction, and for each object the acts that made what it is now.
+pub record IsSound {T : Type 0} (spare last : T → ℕ) (Made : T → List Act → Type 0) (capacity : ℕ) (t : Transaction T) : Type 0 where
   pub session : 1 ≤ t.session
   pub places : MAX_HELD ≤ capacity
   pub few : length t.held ≤ MAX_HELD
@@ -58,3 +64,4 @@ pub record IsSound {T : Type 0} (spare last : T → ℕ) (capacity : ℕ) (t : T
   pub lasts : All (λ h. last h.object < 2 ^ 62) t.held
   pub present : All (λ h. h.number < t.objects) t.held
   pub distinct : AreDistinct t.held
+  pub made : All (λ h. Made h.object h.acts) t.held

@@ -3,11 +3,14 @@
 ghost use Rattle.std.specs.Prelude.{◌≡◌, ◌≤◌, None, IfSome, IfNone, is_some, length};
 ghost use Rattle.shadow_txn.specs.Held.{object_in, IsPlace};
 
-/// An object with its number.
+use eos_ops::Acts;
+
+/// An object with its number, and what the transaction did to it where its annals keep that.
 #[derive(Debug, Drop)]
 pub struct Held<T> {
     pub number: u32,
     pub object: T,
+    pub acts: Acts,
 }
 
 /// Where an object stands among those that are held.

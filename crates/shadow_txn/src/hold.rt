@@ -1,16 +1,19 @@
 //! Taking an object, and letting it go without an end.
 
-ghost use Rattle.std.specs.Prelude.{◌≡◌, ◌≢◌, ◌<◌, ◌≤◌, ◌↔◌, ◌⊎◌, true, Err, Some, None, [], IfSome, IfOk, IfErr, OnOk, OnErr, IsOk, IsSome, IsSomeAnd, length, slice_get};
+ghost use Rattle.std.specs.Prelude.{◌≡◌, ◌≢◌, ◌<◌, ◌≤◌, ◌↔◌, ◌⊎◌, true, Err, Some, None, [], IfSome, IfOk, IfErr, OnOk, OnErr, IsOk, IsSome, IsSomeAnd, length, slice_get, slice_index_or};
+ghost use Rattle.eos_ops.specs.declared.plain.Plain.{Plain};
 ghost use Rattle.object_locks.specs.Shelving.{Terms, IsPut};
+ghost use Rattle.shadow_txn.specs.Acts.{HasNoActs};
 ghost use Rattle.shadow_txn.specs.Held.{object_in, without};
-ghost use Rattle.shadow_txn.specs.Serving.{Serves};
+ghost use Rattle.shadow_txn.specs.Serving.{Serves, Agree};
+ghost use Rattle.shadow_txn.specs.Objects.{IsLegalObject};
 ghost use Rattle.shadow_txn.specs.Taking.{IsTaken, Leaves, Holds, CanAsk};
 ghost use Rattle.shadow_txn.specs.Transaction.{holding};
 
 use crate::annals_room::make_room;
 use crate::held::place_of;
 use crate::{Held, HoldFail, PlainObject, Txn};
-use eos_ops::{Annals, MAX_HELD};
+use eos_ops::{Acts, Annals, MAX_HELD};
 use object_locks::Shelf;
 
 impl<H: Annals> Txn<H> {
@@ -30,13 +33,20 @@ impl<H: Annals> Txn<H> {
         ensures left { IfErr result (λ fail. Leaves H.told H.last fail o (X.shelving shelf.old) (X.shelving shelf.new)) }
         ensures serves { Serves H.told H.last self.new (X.shelving shelf.new) }
         ensures under { (t : Terms) → X.under shelf.old t → X.under shelf.new t }
+
+        // What comes from the shelf keeps its terms.
+        ensures agree { (t : Terms) → X.under shelf.old t → Agree H.tells H.told t self.old.held → Agree H.tells H.told t self.new.held }
     {
         if self.holds(o) {
             return Ok(());
         }
         let number = self.admit(o)?;
         let object = take_ready(shelf, number)?;
-        self.held.push_reserved(Held { number, object });
+        self.held.push_reserved(Held {
+            number,
+            object,
+            acts: Acts::new(self.alloc),
+        });
         Ok(())
     }
 
@@ -56,20 +66,24 @@ impl<H: Annals> Txn<H> {
         Ok(o as u32)
     }
 
-    /// Puts object `o` back as it was taken, without an end. It takes no memory.
+    /// Puts object `o` back as it was taken, without an end: nothing was done to it. It takes no memory.
     pub fn unhold<X: Shelf<PlainObject<H>>>(&mut self, shelf: &mut X, o: u64)
-        requires held { IsSomeAnd (object_in o self.old.held) (λ x. (x.working ≡ None) × (H.told x.annals ≡ None)) }
+        requires held { IsSomeAnd (object_in o self.old.held) (λ x. x.working ≡ None) }
+
+        // An object with acts goes home with their end.
+        requires acts { HasNoActs H.tells o self.old.held }
         requires serves { Serves H.told H.last self.old (X.shelving shelf.old) }
-        requires terms { (t : Terms) × X.under shelf.old t × (t.frame ≡ []) }
+        requires terms { (t : Terms) × X.under shelf.old t × Agree H.tells H.told t self.old.held }
         ensures txn { self.new ≡ holding self.old (without o self.old.held) }
         ensures put { IfSome (object_in o self.old.held) (λ x. IsPut (H.told x.annals) o x (X.shelving shelf.old) (X.shelving shelf.new)) }
         ensures serves { Serves H.told H.last self.new (X.shelving shelf.new) }
-        ensures under { (t : Terms) → t.frame ≡ [] → X.under shelf.old t → X.under shelf.new t }
+        ensures under { (t : Terms) → Agree H.tells H.told t self.old.held → X.under shelf.old t → X.under shelf.new t }
+        ensures agree { (t : Terms) → Agree H.tells H.told t self.old.held → Agree H.tells H.told t self.new.held }
     {
         let Some(i) = place_of(&self.held, o) else {
             unreachable!()
         };
-        let Held { number, object } = self.held.remove(i);
+        let Held { number, object, .. } = self.held.remove(i);
         shelf.put(number, object);
     }
 }
@@ -87,6 +101,7 @@ fn take_ready<H: Annals, X: Shelf<PlainObject<H>>>(
     ensures asked { IfErr result (λ fail. (fail ≢ HoldFail.NoObject) × (fail ≢ HoldFail.Full)) }
     ensures exact { IfSome (X.shelving shelf.old).home (λ xs. (result ≡ Err HoldFail.Busy) ↔ (slice_get xs o ≡ Some None)) }
     ensures under { (t : Terms) → X.under shelf.old t → X.under shelf.new t }
+    ensures legal { IfOk result (λ object. (t : Terms) → X.under shelf.old t → IsLegalObject H.told (slice_index_or t.opened o Plain.Absent) object) }
 {
     let Ok(mut object) = shelf.take(o) else {
         return Err(HoldFail::Busy);

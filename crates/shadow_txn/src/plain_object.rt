@@ -1,9 +1,11 @@
 //! An object that is a byte string in memory.
 
-ghost use Rattle.std.specs.Prelude.{◌≡◌, None, [], IfSome, IfOk, Ok, OnErr, if◌then◌else◌};
-ghost use Rattle.history.specs.Annals.{IsLegal};
+ghost use Rattle.std.specs.Prelude.{◌≡◌, None, [], IfOk, Ok, Err, OnErr, if◌then◌else◌};
+ghost use Rattle.shadow_txn.specs.Objects.{IsLegalObject};
 
-use eos_ops::{Annals, Edit, Outcome, Plain, apply_plain};
+use crate::TxnFail;
+use crate::first_edit::{edited_copy, outcome_of};
+use eos_ops::{Annals, Bytes, Edit, Outcome, Plain, apply_plain};
 use object_locks::Aged;
 use std::alloc::{AllocError, Global};
 
@@ -24,7 +26,7 @@ impl<H: Annals> Aged for PlainObject<H> {
 
     ghost frame = { λ _. [] };
 
-    ghost legal = { λ first x. IfSome (H.told x.annals) (λ ends. IsLegal first ends x.committed) };
+    ghost legal = { IsLegalObject H.told };
 
     // Stamps rise from 1 on, so there are no more ends than the last stamp says.
     fn ends(&self) -> u64 {
@@ -34,7 +36,10 @@ impl<H: Annals> Aged for PlainObject<H> {
 
 impl<H> PlainObject<H> {
     ghost use Rattle.eos_ops.specs.Edits.{outcome_in};
+    ghost use Rattle.eos_ops.specs.Objects.{length_in, read_in};
+    ghost use Rattle.shadow_txn.specs.declared.fails.TxnFail.TheVariants.{Memory};
     ghost use Rattle.shadow_txn.specs.Objects.{working_of, edited_object};
+    ghost use Rattle.shadow_txn.specs.Replies.{bytes_reply, length_reply};
 
     /// The working version.
     pub(crate) fn current(&self) -> &Plain
@@ -46,7 +51,35 @@ impl<H> PlainObject<H> {
         }
     }
 
-    /// Edits the working version alone. After any answer but `Done` nothing has changed.
+    /// The length of the working version in bytes.
+    pub(crate) fn length(&self) -> Result<u64, TxnFail>
+        ensures { length_reply result ≡ length_in (working_of self.now) }
+    {
+        match self.current() {
+            Plain::Absent => Err(TxnFail::Missing),
+            Plain::Present(bytes) => Ok(bytes.len()),
+        }
+    }
+
+    /// The `len` bytes of the working version from `at` on.
+    pub(crate) fn read(&self, alloc: Global, at: u64, len: u64) -> Result<Bytes, TxnFail>
+        ensures { (result ≡ Err Memory → ⊥) → bytes_reply result ≡ read_in at len (working_of self.now) }
+    {
+        let Plain::Present(bytes) = self.current() else {
+            return Err(TxnFail::Missing);
+        };
+        let end = bytes.len();
+        if at > end || len > end - at {
+            return Err(TxnFail::Range(end));
+        }
+        match bytes.read(alloc, at, len) {
+            Ok(copy) => Ok(copy),
+            Err(_) => Err(TxnFail::Memory),
+        }
+    }
+
+    /// Edits the working version alone, which is made by the first edit. After any answer but `Done` nothing has
+    /// changed.
     pub(crate) fn edit(&mut self, alloc: Global, edit: &Edit) -> Result<Outcome, AllocError>
         ensures outcome { IfOk result (λ outcome. outcome ≡ outcome_in edit.now (working_of self.old)) }
         ensures annals { self.new.annals ≡ self.old.annals }
@@ -57,10 +90,9 @@ impl<H> PlainObject<H> {
         if let Some(working) = &mut self.working {
             return apply_plain(alloc, edit, working);
         }
-        let mut working = copy_of(alloc, &self.committed)?;
-        let outcome = apply_plain(alloc, edit, &mut working)?;
+        let outcome = outcome_of(edit, &self.committed);
         if outcome == Outcome::Done {
-            self.working = Some(working);
+            self.working = Some(edited_copy(alloc, edit, &self.committed)?);
         }
         Ok(outcome)
     }
@@ -76,15 +108,5 @@ impl<H> PlainObject<H> {
         {
             self.committed = working;
         }
-    }
-}
-
-/// A copy of an object.
-fn copy_of(alloc: Global, object: &Plain) -> Result<Plain, AllocError>
-    ensures { IfOk result (λ copy. copy ≡ object.now) }
-{
-    match object {
-        Plain::Absent => Ok(Plain::Absent),
-        Plain::Present(bytes) => Ok(Plain::Present(bytes.read(alloc, 0, bytes.len())?)),
     }
 }

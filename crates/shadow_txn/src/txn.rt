@@ -27,13 +27,14 @@ pub struct Txn<H: Annals> {
 impl<H: Annals> Model for Txn<H> {
     ghost use Rattle.std.specs.Prelude.{vec_capacity};
     ghost use Rattle.shadow_txn.specs.declared.plain_object.PlainObject.{PlainObject};
+    ghost use Rattle.shadow_txn.specs.Acts.{IsLed};
     ghost use Rattle.shadow_txn.specs.Transaction.{Transaction, IsSound};
 
     ghost Value = { Transaction (PlainObject H) };
 
     ghost view = { λ t. record { session = t.session; objects = t.objects; is_open = t.active; number = t.number; stamp = t.stamp; held = t.held.items } };
 
-    ghost invariant = { λ t. IsSound (λ x. H.spare x.annals) (λ x. H.last x.annals) (vec_capacity t.held) (record { session = t.session; objects = t.objects; is_open = t.active; number = t.number; stamp = t.stamp; held = t.held.items }) };
+    ghost invariant = { λ t. IsSound (λ x. H.spare x.annals) (λ x. H.last x.annals) (IsLed H.tells H.told H.last) (vec_capacity t.held) (record { session = t.session; objects = t.objects; is_open = t.active; number = t.number; stamp = t.stamp; held = t.held.items }) };
 }
 
 impl<H: Annals> Txn<H> {
@@ -78,6 +79,7 @@ impl<H: Annals> Txn<H> {
         ensures active { (result ≡ Err BeginFail.Active) ↔ (self.old.is_open ≡ true) }
         ensures worn { (result ≡ Err BeginFail.Worn) ↔ ((self.old.is_open ≡ false) × (self.old.stamp ≡ 2 ^ 62)) }
         ensures err { OnErr result (self.new ≡ self.old) }
+        ensures held { self.new.held ≡ self.old.held }
 
         // A shelf that served the session serves it still.
         ensures serves { (shelf : Shelving (PlainObject H)) → Serves H.told H.last self.old shelf → Serves H.told H.last self.new shelf }

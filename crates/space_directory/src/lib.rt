@@ -14,8 +14,10 @@ mod refused;
 mod segment;
 mod slots;
 mod space;
+#[cfg(test)]
+mod tests;
 
-pub use read::{ReadSpace, read_space};
+pub use read::ReadSpace;
 pub use refused::{SpaceFail, SpaceRefused};
 pub use segment::{Counts, Segment};
 pub use space::Space;

@@ -1,6 +1,7 @@
 //! A space read off its directory page.
 
 ghost use Rattle.std.specs.Prelude.{◌≡◌, ◌+◌, ◌/◌, ◌^◌, ◌≤◌, [], length, replicate, false, IfOk, IfErr, None, vec_capacity};
+ghost use Rattle.geometry_model.specs.Numbers.{space_pages};
 ghost use Rattle.page_port.specs.Pages.{IsSized};
 ghost use Rattle.space_directory.specs.SpaceView.{IsSpace};
 ghost use Rattle.space_directory.specs.Opening.{IsRead, IsDirectory, pages_of_all, unfree};
@@ -9,7 +10,7 @@ use crate::cut::cut_apart;
 use crate::directory::read_map;
 use crate::refused::{SpaceFail, SpaceRefused};
 use crate::space::Space;
-use page_port::Span;
+use page_port::{Geometry, Span};
 use release_locks::Locks;
 use std::alloc::{AllocError, Global};
 
@@ -28,11 +29,40 @@ struct Room<S: Span> {
     used: Vec<S>,
 }
 
-/// Reads space `number` of `2^order` pages of `size` bytes off its directory page. `span` is its
-/// data pages. `BadDirectory` comes exactly where the page isn't the directory page of any set of
-/// free pages of this space. A refusal hands the span back: all memory is taken before the first
-/// cut.
-pub fn read_space<S: Span>(
+impl<S: Span> Space<S> {
+    /// Reads space `s` of a store off its directory page. `span` is its data pages.
+    ///
+    /// # Errors
+    /// `BadDirectory` comes exactly where the page isn't the directory page of any set of free pages
+    /// of this space. A refusal hands the span back: all memory is taken before the first cut.
+    pub fn read_page(
+        alloc: Global,
+        geometry: &Geometry,
+        s: u16,
+        page: &[u8],
+        span: S,
+    ) -> Result<ReadSpace<S>, SpaceRefused<S>>
+        requires count { length (S.contents span) ≡ space_pages geometry.now }
+        requires sized { IsSized S.tells geometry.now.page (S.contents span) }
+        ensures read { IfOk result (λ r. IsRead page.now geometry.now.page s geometry.now.order
+            (S.start span) r.space) }
+        ensures used { IfOk result (λ r. pages_of_all S.start S.contents r.used.items
+            ≡ unfree (S.start span) r.space.free (S.contents span)) }
+        ensures space { IfOk result (λ r. IsSpace r.space) }
+
+        // A refusal keeps nothing, and has its cause.
+        ensures refused { IfErr result (λ e. e.span ≡ span) }
+        ensures bad { IfErr result (λ e. e.why ≡ SpaceFail.BadDirectory
+            → IsDirectory page.now geometry.now.page s geometry.now.order → ⊥) }
+    {
+        let size = geometry.page();
+        let order = geometry.order() as u8;
+        read_space(alloc, size, order, s, page, span)
+    }
+}
+
+/// Reads space `number` of `2^order` pages of `size` bytes.
+fn read_space<S: Span>(
     alloc: Global,
     size: u32,
     order: u8,

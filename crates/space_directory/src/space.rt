@@ -157,6 +157,22 @@ impl<S: Span> Space<S> {
         self.number
     }
 
+    /// The first page of the space.
+    pub fn first(&self) -> u32
+        ensures first { result ≡ self.now.first }
+        ensures space { IsSpace self.now }
+    {
+        self.first
+    }
+
+    /// The bytes of a page.
+    pub fn page_size(&self) -> u32
+        ensures page { result ≡ self.now.page }
+        ensures space { IsSpace self.now }
+    {
+        self.page
+    }
+
     /// How many pages the space has.
     pub fn pages(&self) -> u32
         ensures pages { result ≡ length self.now.free }
@@ -171,5 +187,15 @@ impl<S: Span> Space<S> {
         ensures { out.new ≡ directory_page self.now.page self.now.number self.now.free }
     {
         write_directory(out, self.number, &self.map, self.spans.len());
+    }
+}
+
+impl<S: Span> AsRef<BuddyMap> for Space<S> {
+    /// Its free pages.
+    fn as_ref(&self) -> &BuddyMap
+        ensures free { result.now ≡ self.now.free }
+        ensures space { IsSpace self.now }
+    {
+        &self.map
     }
 }

@@ -1,18 +1,16 @@
 -- Where a grant over told spaces falls, and what one tried space makes of them.
-use Rattle.std.proofs.Common.{inl, inr, ◌≡◌, ℕ, suc, zero, ◌+◌, ◌-◌, ◌^◌, ◌<◌, ◌≤◌, Bool, true, List, [], ◌∷◌, ◌++◌, length, map, set, Option, Some, None, refl, sym, ap, ◌∙◌, subst, arith}
+use Rattle.std.proofs.Common.{inl, inr, ◌≡◌, ℕ, suc, zero, ◌+◌, ◌-◌, ◌<◌, ◌≤◌, Bool, true, List, [], ◌∷◌, ◌++◌, length, map, set, Option, Some, None, refl, sym, ap, ◌∙◌, subst, arith}
 use Rattle.std.proofs.Math.Seq.{map-set}
 use Rattle.std.proofs.lemmas.List.{length-set, set-set, set-get_or}
-use Rattle.std.proofs.lemmas.Option.{slice_get-map, slice_get_within, get_or_from_slice_get}
+use Rattle.std.proofs.lemmas.Option.{slice_get-map, get_or_from_slice_get}
 use Rattle.std.proofs.lemmas.Bool.{cases_lt}
-use Rattle.std.specs.Prelude.{IsTrue, IsNone, IfSome, IfNone, slice_get, slice_set, slice_index, slice_index_or, option_map, is_none, is_some, ◌↔◌}
+use Rattle.std.specs.Prelude.{IsTrue, IsNone, IfSome, IfNone, slice_get, slice_set, slice_index, option_map, is_none, is_some, ◌↔◌}
 use Rattle.std.specs.List.{range_with_len}
 use Rattle.page_port.specs.Pages.{IsSized}
 use Rattle.block_model.specs.Block.{IsOrder}
-use Rattle.block_model.specs.Place.{place, hint_of, largest, order_before}
+use Rattle.block_model.specs.Place.{place, hint_of}
 use Rattle.block_model.proofs.Changes.{length-with_run}
-use Rattle.std.proofs.Math.Pow.{pow_mono}
-use Rattle.block_model.proofs.Runs.{IsBlock-within}
-use Rattle.block_model.proofs.Laws.{hint_of-is, hint_of-largest, HasNoRoom-hint, HasNoRoom-place, place-HasNoRoom, place-within, hint-room}
+use Rattle.block_model.proofs.Laws.{hint_of-is, HasNoRoom-hint, HasNoRoom-place, place-HasNoRoom, place-within, hint-room}
 use Rattle.layout_model.specs.Grants.{Spot, space_at, spot_in}
 use Rattle.space_directory.specs.SpaceView.{SpaceView, IsSpace, IsGrant, IsRunOf, IsSegmentOf, granted, given, locked_more, unlocked}
 use Rattle.superdirectory.specs.Rest.{Frame, Rest, IsOf, IsTold}
@@ -26,7 +24,7 @@ view_at (v ∷ views) (suc s) less = view_at views s (omega arith)
 pub told_at : (rest : Rest) (views : List SpaceView) (s : ℕ) (v : SpaceView) → AreTold rest views → slice_get views s ≡ Some v → IsTold rest s v
 told_at rest views s v told here = (map Some views, told, slice_get-map Some views s ∙ ap (option_map Some) here)
 
-free_at : (views : List SpaceView) (s : ℕ) (v : SpaceView) → slice_get views s ≡ Some v → space_at (free_of views) s ≡ v.free
+pub free_at : (views : List SpaceView) (s : ℕ) (v : SpaceView) → slice_get views s ≡ Some v → space_at (free_of views) s ≡ v.free
 free_at [] s v h = cc
 free_at (x ∷ views) zero v h = (let e : x ≡ v = cc in ap (λ (y : SpaceView). y.free) e)
 free_at (x ∷ views) (suc s) v h = free_at views s v h
@@ -90,14 +88,14 @@ set_same : (views : List SpaceView) (s : ℕ) (v : SpaceView) → slice_get view
 set_same views s v here = ap (λ (x : SpaceView). set views s x) (sym (get_or_from_slice_get views s v v here)) ∙ set-get_or views s v
 
 pub exact_entered : {A : Type 0} (at : A → ℕ × ℕ) (pages : A → List (List ℕ)) (tells : Bool) (o : Option A) (old new v : SpaceView) (views : List SpaceView) (n s : ℕ) (frame : Frame) (rest : Rest) →
-    old ≡ v → slice_get views s ≡ Some v → IsOf frame s old → IfSome o (λ a. IsGrant old new n (at a).0 (at a).1 (pages a) tells) → (IsNone o ↔ (place old.free n ≡ None)) → IfNone o (new ≡ old) →
+    old ≡ v → slice_get views s ≡ Some v → IsSpace old → IsOf frame s old → IfSome o (λ a. IsGrant old new n (at a).0 (at a).1 (pages a) tells) → (IsNone o ↔ (place old.free n ≡ None)) → IfNone o (new ≡ old) →
     rest.spaces ≡ Some (slice_set (slice_set (map Some views) s None) s (Some new)) → IsExact views n (spot_in (free_of views) n (s ∷ [])) frame (option_map at o) rest
-exact_entered at pages tells None old new v views n s frame rest same here home made refused kept spaces =
+exact_entered at pages tells None old new v views n s frame rest same here sound home made refused kept spaces =
     let none : place (space_at (free_of views) s) n ≡ None = ap (λ (f : List Bool). place f n) (free_at views s v here) ∙ ap (λ (x : SpaceView). place x.free n) (sym same) ∙ refused.0 refl in
     let back : set (set (map Some views) s None) s (Some new) ≡ map Some views =
     set_back views s v new here ∙ ap (map Some) (ap (λ (x : SpaceView). set views s x) (kept ∙ same) ∙ set_same views s v here) in
     subst (λ (x : Option Spot). IsExact views n x frame None rest) (sym (spot_one_none (free_of views) n s none)) (refl, spaces ∙ ap (λ (l : List (Option SpaceView)). Some l) back)
-exact_entered at pages tells (Some a) old new v views n s frame rest same here home made refused kept spaces =
+exact_entered at pages tells (Some a) old new v views n s frame rest same here sound home made refused kept spaces =
     let spot : place (space_at (free_of views) s) n ≡ Some ((at a).1 - old.first) = ap (λ (f : List Bool). place f n) (free_at views s v here) ∙ ap (λ (x : SpaceView). place x.free n) (sym same) ∙ made.placed in
     let number : (at a).0 ≡ s = made.named ∙ home.number in
     let start : (at a).1 ≡ slice_index frame.firsts s + ((at a).1 - old.first) = omega (arith, made.from, home.first) in
@@ -107,7 +105,7 @@ exact_entered at pages tells (Some a) old new v views n s frame rest same here h
       ap (λ (p : ℕ × ℕ). Some p) pair,
       (
         set views s (granted v ((at a).1 - old.first) n),
-        (v, get_or_from_slice_get views s v v here, slice_get_within views s v here, refl),
+        record { was = v; here = here; sound = subst (λ (x : SpaceView). IsSpace x) same sound; home = subst (λ (x : SpaceView). IsOf frame s x) same home; now = refl },
         spaces ∙ ap (λ (l : List (Option SpaceView)). Some l) (set_back views s v new here ∙ ap (λ (x : SpaceView). map Some (set views s x)) left),
       ),
     )
@@ -220,32 +218,3 @@ pub given_more : {A : Type 0} (space first : A → ℕ) (pages : A → List (Lis
     IsChanged between (space run) (λ v. given v (first run - v.first) (length (pages run))) new → (after : List SpaceView) × AreTold new after × (length after ≡ length between) × IsGivenAll space first pages before (run ∷ runs) after
 given_more space first pages before between run runs new all changed =
     (set between (space run) (given changed.was (first run - changed.was.first) (length (pages run))), changed.now, length-set between (space run) (given changed.was (first run - changed.was.first) (length (pages run))), (between, all, (changed.was, changed.here, refl)))
-
--- ---- exact hints
-
-before_some : (free : List Bool) (o hint : ℕ) → Some o ≡ order_before hint → hint ≡ suc o
-before_some free o zero e = cc
-before_some free o (suc h) e = let same : o ≡ h = cc in ap suc (sym same)
-
-before_none : (hint : ℕ) → None ≡ order_before hint → hint ≡ 0
-before_none zero e = refl
-before_none (suc h) e = cc
-
-pub hint_some : (free : List Bool) (o : ℕ) → Some o ≡ largest free → o + 1 ≡ hint_of free
-hint_some free o e = let h : hint_of free ≡ suc o = before_some free o (hint_of free) (e ∙ hint_of-largest free) in omega arith
-
-pub hint_none : (free : List Bool) → None ≡ largest free → 0 ≡ hint_of free
-hint_none free e = sym (before_none (hint_of free) (e ∙ hint_of-largest free))
-
-pub largest_small : (v : SpaceView) (o : ℕ) → IsSpace v → Some o ≡ largest v.free → o ≤ 14
-largest_small v o s e =
-    let block = (hint_of-is v.free).reached o (before_some v.free o (hint_of v.free) (e ∙ hint_of-largest v.free)) in
-    let size : 2 ^ o ≤ length v.free = omega (arith, IsBlock-within v.free o block.0 block.1) in
-    let most : 2 ^ s.order ≤ 2 ^ 14 = pow_mono {i = s.order} {j = 14} s.order_high in
-    elim (cases_lt 14 o) [
-      | inl more ↦ let large : 2 ^ 15 ≤ 2 ^ o = pow_mono {i = 15} {j = o} (omega arith) in absurd (omega (arith, s.size))
-      | inr ok ↦ ok
-    ]
-
-pub read_hint : (hints : List ℕ) (s hint x : ℕ) → slice_get hints s ≡ Some hint → x ≡ slice_index_or hints s x → x ≡ hint
-read_hint hints s hint x here read = read ∙ get_or_from_slice_get hints s hint x here

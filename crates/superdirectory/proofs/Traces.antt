@@ -1,9 +1,9 @@
 -- Parts of a trace, one after the other, and what a search over spaces adds to it.
 use Rattle.std.proofs.Common.{inl, inr, ◌≡◌, ℕ, suc, zero, ◌+◌, ◌-◌, ◌<◌, ◌≤◌, Bool, true, false, List, [], ◌∷◌, ◌++◌, length, Option, Some, None, refl, sym, ap, ◌∙◌, subst, arith}
 use Rattle.std.proofs.lemmas.List.{append-nil, append_assoc}
-use Rattle.std.proofs.lemmas.Bool.{cases_lt, cases_eq, false≢true}
-use Rattle.std.specs.Prelude.{IsTrue, slice_get}
-use Rattle.superdirectory.specs.Trace.{Event, look_event, enter_event, Part, IsLow, IsCareful, IsTried, IsSearched, IsEntered, AreEnters}
+use Rattle.std.proofs.lemmas.Bool.{cases_lt, cases_eq, false≢true, ne_eqb}
+use Rattle.std.specs.Prelude.{IsTrue, nat_eq, slice_get}
+use Rattle.superdirectory.specs.Trace.{Event, look_event, enter_event, Part, IsLow, IsCareful, one_where, looks_at, enters_of, AreVisits, IsTried, IsSearched, IsEntered, AreEnters}
 
 pub part_none : (P : List Event → Type 0) (t : Option (List Event)) → P [] → Part P t t
 part_none P None p = refl
@@ -59,10 +59,48 @@ careful_both order p q a b = record {
 pub careful_none : (order : ℕ) → IsCareful order []
 careful_none order = record { shown = λ at space hint h. cc }
 
+-- visits of two parts
+looks-append : (space : ℕ) (p q : List Event) → looks_at space (p ++ q) ≡ looks_at space p + looks_at space q
+looks-append space [] q = let none : looks_at space q ≡ 0 + looks_at space q = omega arith in none
+looks-append space (e ∷ p) q = let rest = looks-append space p q in omega (arith, rest)
+
+enters-append : (space : ℕ) (p q : List Event) → enters_of space (p ++ q) ≡ enters_of space p + enters_of space q
+enters-append space [] q = let none : enters_of space q ≡ 0 + enters_of space q = omega arith in none
+enters-append space (e ∷ p) q = let rest = enters-append space p q in omega (arith, rest)
+
+visits_both : (a b most space : ℕ) (p q : List Event) → AreVisits a space p → AreVisits b space q → a + b ≤ most → AreVisits most space (p ++ q)
+visits_both a b most space p q first second fits = record {
+  looks = let all = looks-append space p q in omega (arith, all, first.looks, second.looks, fits);
+  enters = let all = enters-append space p q in omega (arith, all, first.enters, second.enters, fits);
+}
+
+visits_none : (most space : ℕ) → AreVisits most space []
+visits_none most space = record { looks = omega arith; enters = omega arith }
+
+one_most : (b : Bool) → one_where b ≤ 1
+one_most true = omega arith
+one_most false = omega arith
+
+one_none : (s other : ℕ) → (other ≡ s → ⊥) → one_where (nat_eq s other) ≡ 0
+one_none s other differ = ap one_where (ne_eqb s other (λ same. differ (sym same)))
+
+-- a look at a space, and an enter of it
+visits_tried : (s hint found : ℕ) → AreVisits 1 s (look_event s hint ∷ enter_event s found ∷ [])
+visits_tried s hint found =
+    let most = one_most (nat_eq s s) in
+    record { looks = omega (arith, most); enters = omega (arith, most) }
+
+visits_other : (s hint found other : ℕ) → (other ≡ s → ⊥) → AreVisits 0 other (look_event s hint ∷ enter_event s found ∷ [])
+visits_other s hint found other differ =
+    let none = one_none s other differ in
+    record { looks = omega (arith, none); enters = omega (arith, none) }
+
 -- a look that showed enough, and the enter after it
 pub tried_entered : (order s hint found : ℕ) (refused : Bool) → order < hint → (IsTrue refused → found ≤ order) → IsTried order s refused (look_event s hint ∷ enter_event s found ∷ [])
 tried_entered order s hint found refused enough low = record {
   careful = record { shown = after };
+  once = visits_tried s hint found;
+  alone = λ other differ. visits_other s hint found other differ;
   low = λ r. record { at = 1; event = enter_event s found; here = refl; of = refl; low = low r };
 }
   where
@@ -75,21 +113,37 @@ tried_entered order s hint found refused enough low = record {
     after (suc (suc at)) space h e = cc
 
 pub searched_none : (order from : ℕ) → IsSearched order from from true []
-searched_none order from = record { careful = careful_none order; low = λ _ space low high. absurd (omega arith) }
+searched_none order from = record { careful = careful_none order; once = λ space. visits_none 1 space; alone = λ space out. visits_none 0 space; low = λ _ space low high. absurd (omega arith) }
 
 -- one space more
-pub searched_more : (order from s next : ℕ) (refused : Bool) (p q : List Event) → next ≡ s + 1 → IsSearched order from s true p → IsTried order s refused q → IsSearched order from next refused (p ++ q)
-searched_more order from s next refused p q e a b = record {
+visits_more : (order from s space : ℕ) (before refused : Bool) (p q : List Event) → IsSearched order from s before p → IsTried order s refused q → AreVisits 1 space (p ++ q)
+visits_more order from s space before refused p q a b = elim (cases_eq space s) [
+  | inl same ↦ visits_both 0 1 1 space p q (a.alone space (inr (omega (arith, same)))) (subst (λ (k : ℕ). AreVisits 1 k q) (sym same) b.once) (omega arith)
+  | inr other ↦ visits_both 1 0 1 space p q (a.once space) (b.alone space other) (omega arith)
+]
+
+pub searched_more : (order from s next : ℕ) (refused : Bool) (p q : List Event) → next ≡ s + 1 → from ≤ s → IsSearched order from s true p → IsTried order s refused q → IsSearched order from next refused (p ++ q)
+searched_more order from s next refused p q e rising a b = record {
   careful = careful_both order p q a.careful b.careful;
+  once = λ space. visits_more order from s space true refused p q a b;
+  alone = λ space out. elim out [
+    | inl below ↦ visits_both 0 0 0 space p q (a.alone space (inl below)) (b.alone space (λ same. omega (arith, same, below, rising))) (omega arith)
+    | inr above ↦ visits_both 0 0 0 space p q (a.alone space (inr (omega (arith, above, e)))) (b.alone space (λ same. omega (arith, same, above, e))) (omega arith)
+  ];
   low = λ r space low high. elim (cases_eq space s) [
     | inl same ↦ low_right space order p q (subst (λ (k : ℕ). IsLow k order q) (sym same) (b.low r))
     | inr other ↦ low_left space order p q (a.low refl space low (omega arith))
   ];
 }
 
-pub searched_found : (order from to s : ℕ) (p q : List Event) → IsSearched order from s true p → IsTried order s false q → IsSearched order from to false (p ++ q)
-searched_found order from to s p q a b = record {
+pub searched_found : (order from to s : ℕ) (p q : List Event) → from ≤ s → s < to → IsSearched order from s true p → IsTried order s false q → IsSearched order from to false (p ++ q)
+searched_found order from to s p q rising within a b = record {
   careful = careful_both order p q a.careful b.careful;
+  once = λ space. visits_more order from s space true false p q a b;
+  alone = λ space out. elim out [
+    | inl below ↦ visits_both 0 0 0 space p q (a.alone space (inl below)) (b.alone space (λ same. omega (arith, same, below, rising))) (omega arith)
+    | inr above ↦ visits_both 0 0 0 space p q (a.alone space (inr (omega (arith, above, within)))) (b.alone space (λ same. omega (arith, same, above, within))) (omega arith)
+  ];
   low = λ r space low high. cc;
 }
 
@@ -97,14 +151,30 @@ searched_found order from to s p q a b = record {
 pub searched_both : (order start count : ℕ) (refused : Bool) (p q : List Event) → start ≤ count → IsSearched order start count true p → IsSearched order 0 start refused q → IsSearched order 0 count refused (p ++ q)
 searched_both order start count refused p q fits a b = record {
   careful = careful_both order p q a.careful b.careful;
+  once = λ space. elim (cases_lt space start) [
+    | inl less ↦ visits_both 0 1 1 space p q (a.alone space (inl less)) (b.once space) (omega arith)
+    | inr more ↦ visits_both 1 0 1 space p q (a.once space) (b.alone space (inr more)) (omega arith)
+  ];
+  alone = λ space out. elim out [
+    | inl below ↦ absurd (omega (arith, below))
+    | inr above ↦ visits_both 0 0 0 space p q (a.alone space (inr above)) (b.alone space (inr (omega (arith, above, fits)))) (omega arith)
+  ];
   low = λ r space low high. elim (cases_lt space start) [
     | inl less ↦ low_right space order p q (b.low r space low less)
     | inr more ↦ low_left space order p q (a.low refl space more high)
   ];
 }
 
-pub searched_found_from : (order from to other end : ℕ) (p : List Event) → IsSearched order from to false p → IsSearched order other end false p
-searched_found_from order from to other end p a = record { careful = a.careful; low = λ r space low high. cc }
+pub searched_found_from : (order from to other end : ℕ) (p : List Event) → other ≤ from → to ≤ end → IsSearched order from to false p → IsSearched order other end false p
+searched_found_from order from to other end p low high a = record {
+  careful = a.careful;
+  once = a.once;
+  alone = λ space out. elim out [
+    | inl below ↦ a.alone space (inl (omega (arith, below, low)))
+    | inr above ↦ a.alone space (inr (omega (arith, above, high)))
+  ];
+  low = λ r space low high. cc;
+}
 
 pub enters_none : AreEnters []
 enters_none = record { each = λ at event h. cc }

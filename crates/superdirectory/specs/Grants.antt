@@ -1,9 +1,9 @@
 -- What a grant over many spaces gives, and what it leaves.
-use Rattle.std.specs.Prelude.{◌≡◌, ℕ, ◌+◌, ◌-◌, ◌<◌, ◌≤◌, Bool, List, [], ◌∷◌, length, map, slice_index, slice_index_or, slice_get, slice_set, Option, Some, None}
+use Rattle.std.specs.Prelude.{◌≡◌, ℕ, ◌+◌, ◌-◌, ◌<◌, ◌≤◌, Bool, List, [], ◌∷◌, length, map, slice_index, slice_get, slice_set, Option, Some, None}
 use Rattle.page_port.specs.Pages.{IsSized}
 use Rattle.layout_model.specs.Grants.{Spot}
-use Rattle.space_directory.specs.SpaceView.{SpaceView, granted, given}
-use Rattle.superdirectory.specs.Rest.{Frame, Rest}
+use Rattle.space_directory.specs.SpaceView.{SpaceView, IsSpace, granted, given}
+use Rattle.superdirectory.specs.Rest.{Frame, Rest, IsOf}
 
 -- the told spaces are these, and none is away
 abbrev pub AreTold : Rest → List SpaceView → Type 0
@@ -26,16 +26,20 @@ pub record IsSegmentIn (frame : Frame) (n space start : ℕ) (pages : List (List
   pub count : length pages ≡ n
   pub sized : IsSized tells frame.page pages
 
--- the spaces without the pages that a grant took at a spot
-abbrev pub taken : List SpaceView → Spot → ℕ → List SpaceView → Type 0
-taken views spot n after = (v : SpaceView) × (slice_index_or views spot.space v ≡ v) × (spot.space < length views) × (after ≡ slice_set views spot.space (granted v spot.at n))
+-- the spaces without the n pages that a grant took at a spot, where a space stood
+pub record IsTaken (frame : Frame) (views : List SpaceView) (spot : Spot) (n : ℕ) (after : List SpaceView) : Type 0 where
+  pub was : SpaceView
+  pub here : slice_get views spot.space ≡ Some was
+  pub sound : IsSpace was
+  pub home : IsOf frame spot.space was
+  pub now : after ≡ slice_set views spot.space (granted was spot.at n)
 
 -- where `space` and `start` of the pages are those of the first of the visited spaces that has a place, and
 -- the told spaces lose these pages; or no visited space has a place, and they stay
 abbrev pub IsExact : List SpaceView → ℕ → Option Spot → Frame → Option (ℕ × ℕ) → Rest → Type 0
 IsExact views n None frame result new = (result ≡ None) × AreTold new views
 IsExact views n (Some spot) frame result new =
-    (result ≡ Some (spot.space, slice_index frame.firsts spot.space + spot.at)) × ((after : List SpaceView) × taken views spot n after × AreTold new after)
+    (result ≡ Some (spot.space, slice_index frame.firsts spot.space + spot.at)) × ((after : List SpaceView) × IsTaken frame views spot n after × AreTold new after)
 
 -- n pages from `first` on, at least one, lie in this space
 pub record IsRunIn (frame : Frame) (space first n : ℕ) : Type 0 where

@@ -1,5 +1,5 @@
 -- The looks and enters of an object that reaches the spaces, in the order made, told or not.
-use Rattle.std.specs.Prelude.{◌≡◌, ℕ, ◌<◌, ◌≤◌, Bool, true, false, IsTrue, List, [], ◌∷◌, ◌++◌, slice_get, Option, Some, None}
+use Rattle.std.specs.Prelude.{◌≡◌, ℕ, ◌+◌, ◌<◌, ◌≤◌, ◌⊎◌, Bool, true, false, ◌&&◌, not, nat_eq, IsTrue, List, [], ◌∷◌, ◌++◌, slice_get, Option, Some, None}
 
 -- a look at a space with the hint that it saw, or an enter with the hint of the space that it found
 pub record Event : Type 0 where
@@ -31,18 +31,42 @@ pub record IsCareful (order : ℕ) (part : List Event) : Type 0 where
   pub shown : (at space hint : ℕ) → slice_get part at ≡ Some (enter_event space hint) →
       (i : ℕ) × (seen : ℕ) × (i < at) × (slice_get part i ≡ Some (look_event space seen)) × (order < seen)
 
+-- how many looks at a space there are in this part, and how many enters of it
+abbrev pub one_where : Bool → ℕ
+one_where true = 1
+one_where false = 0
+
+abbrev pub looks_at : ℕ → List Event → ℕ
+looks_at space [] = 0
+looks_at space (e ∷ part) = one_where (not e.enters && nat_eq e.space space) + looks_at space part
+
+abbrev pub enters_of : ℕ → List Event → ℕ
+enters_of space [] = 0
+enters_of space (e ∷ part) = one_where (e.enters && nat_eq e.space space) + enters_of space part
+
+-- a space is looked at so often in this part at most, and entered so often at most
+pub record AreVisits (most space : ℕ) (part : List Event) : Type 0 where
+  pub looks : looks_at space part ≤ most
+  pub enters : enters_of space part ≤ most
+
 -- nothing was added
 abbrev pub IsNothing : List Event → Type 0
 IsNothing part = part ≡ []
 
--- one space was tried: the part is careful, and it found the space low where it was refused
+-- one space was tried: the part is careful, it visits that space once at most and no other one, and it found
+-- the space low where it was refused
 pub record IsTried (order space : ℕ) (refused : Bool) (part : List Event) : Type 0 where
   pub careful : IsCareful order part
+  pub once : AreVisits 1 space part
+  pub alone : (other : ℕ) → (other ≡ space → ⊥) → AreVisits 0 other part
   pub low : IsTrue refused → IsLow space order part
 
--- the spaces from `from` up to `to` were tried in order, up to the first that wasn't refused
+-- the spaces from `from` up to `to` were tried in order, up to the first that wasn't refused: each of them is
+-- visited once at most, and no other one
 pub record IsSearched (order from to : ℕ) (refused : Bool) (part : List Event) : Type 0 where
   pub careful : IsCareful order part
+  pub once : (space : ℕ) → AreVisits 1 space part
+  pub alone : (space : ℕ) → (space < from) ⊎ (to ≤ space) → AreVisits 0 space part
   pub low : IsTrue refused → (space : ℕ) → from ≤ space → space < to → IsLow space order part
 
 -- one enter of the space, and nothing else

@@ -1,7 +1,7 @@
 //! Pages given back, locked and unlocked in the space that has them. None of these calls takes
 //! memory, and each enters one space.
 
-ghost use Rattle.std.specs.Prelude.{◌≡◌, ◌-◌, ◌<◌, ◌≤◌, length, List, [], None};
+ghost use Rattle.std.specs.Prelude.{◌≡◌, ◌-◌, ◌<◌, ◌≤◌, length, List, [], take, drop, None, vec_capacity};
 ghost use Rattle.page_port.specs.Pages.{IsSized};
 ghost use Rattle.space_directory.specs.SpaceView.{SpaceView, given, locked_more, unlocked};
 ghost use Rattle.superdirectory.specs.Trace.{Part, IsEntered, AreEnters};
@@ -92,7 +92,7 @@ pub fn unlock_run<S: Span, L: Latches<S>>(
     latches.leave(s, space);
 }
 
-/// Gives each segment back to its space, and empties the list.
+/// Gives each segment back to its space, the last one first, and empties the list.
 pub fn give_all<S: Span, L: Latches<S>>(
     latches: &mut L,
     turn: &mut L::Turn,
@@ -110,7 +110,33 @@ pub fn give_all<S: Span, L: Latches<S>>(
         × IsGivenAll (λ g. g.space) (λ g. S.start g.span) (λ g. S.contents g.span)
         views segments.old.items after) }
 {
-    while let Some(segment) = segments.pop() {
+    give_from(latches, turn, segments, 0);
+}
+
+/// Gives the segments from place `from` on back to their spaces, the last one first.
+pub(crate) fn give_from<S: Span, L: Latches<S>>(
+    latches: &mut L,
+    turn: &mut L::Turn,
+    segments: &mut Vec<Segment<S>>,
+    from: usize,
+)
+    requires none { (L.rest latches.old).entered ≡ None }
+    requires within { from ≤ length segments.old.items }
+    requires runs { AreRunsIn (λ g. g.space) (λ g. S.start g.span) (λ g. S.contents g.span) S.tells
+        (L.rest latches.old).frame (drop from segments.old.items) }
+    ensures left { segments.new.items ≡ take from segments.old.items }
+    ensures room { vec_capacity segments.new ≡ vec_capacity segments.old }
+    ensures rest { IsAtRest (L.rest latches.old) (L.rest latches.new) }
+    ensures trace { Part AreEnters (L.trace latches.old) (L.trace latches.new) }
+    ensures told { (views : List SpaceView) → AreTold (L.rest latches.old) views
+        → length views ≡ count (L.rest latches.old)
+        → ((after : List SpaceView) × AreTold (L.rest latches.new) after
+        × IsGivenAll (λ g. g.space) (λ g. S.start g.span) (λ g. S.contents g.span)
+        views (drop from segments.old.items) after) }
+{
+    while segments.len() > from
+        && let Some(segment) = segments.pop()
+    {
         give(latches, turn, segment);
     }
 }

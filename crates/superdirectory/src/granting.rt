@@ -37,7 +37,8 @@ pub fn grant<S: Span, L: Latches<S>>(
     ensures segment { IfOk result (λ g. IsSegmentIn (L.rest latches.old).frame n g.space
         (S.start g.span) (S.contents g.span) S.tells) }
 
-    // Each enter follows a look that showed room, and a refusal found every space low.
+    // Each space is visited once at most, each enter follows a look that showed room, and a refusal
+    // found every space low.
     ensures trace { Part (IsSearched (least_order n) 0 (count (L.rest latches.old)) (is_err result))
         (L.trace latches.old) (L.trace latches.new) }
 

@@ -1,6 +1,6 @@
 //! How the spaces are reached: looks at their hints, and the right to use one of them at a time.
 
-ghost use Rattle.std.specs.Prelude.{◌≡◌, ℕ, ◌<◌, List, ◌∷◌, [], Option, Some, None, IfSome, slice_get};
+ghost use Rattle.std.specs.Prelude.{◌≡◌, ℕ, ◌<◌, List, ◌∷◌, [], Option, Some, None, IsSome, IfSome, slice_get};
 ghost use Rattle.block_model.specs.Place.{hint_of};
 ghost use Rattle.space_directory.specs.SpaceView.{SpaceView, IsSpace};
 ghost use Rattle.superdirectory.specs.Trace.{Event, Part, look_event, enter_event, IsNothing};
@@ -52,13 +52,30 @@ pub trait Latches<S: Span>: Hints {
         ensures hints { Self.hints self.new ≡ Self.hints self.old }
         ensures rest { Self.rest self.new ≡ entering (Self.rest self.old) s };
 
+    /// Takes the entered space back out of `space`, changed or not. Its hint becomes exact. This is
+    /// what `leave` does; it is here for the types that implement it.
+    fn take_back(&mut self, s: u16, space: &mut Option<Space<S>>)
+        requires number { s < count (Self.rest self.old) }
+        requires entered { (Self.rest self.old).entered ≡ Some s }
+        requires some { IsSome space.old }
+        requires space { IfSome space.old IsSpace }
+        requires home { IfSome space.old (IsOf (Self.rest self.old).frame s) }
+        ensures taken { space.new ≡ None }
+        ensures trace { Part IsNothing (Self.trace self.old) (Self.trace self.new) }
+        ensures hints { IfSome space.old (λ v. Self.hints self.new ≡ hints_after (Self.hints self.old) s v) }
+        ensures rest { IfSome space.old (λ v. Self.rest self.new ≡ leaving (Self.rest self.old) s v) };
+
     /// Puts the entered space back, changed or not. Its hint becomes exact.
-    fn leave(&mut self, s: u16, space: Space<S>)
+    final fn leave(&mut self, s: u16, space: Space<S>)
         requires number { s < count (Self.rest self.old) }
         requires entered { (Self.rest self.old).entered ≡ Some s }
         requires space { IsSpace space }
         requires home { IsOf (Self.rest self.old).frame s space }
         ensures trace { Part IsNothing (Self.trace self.old) (Self.trace self.new) }
         ensures hints { Self.hints self.new ≡ hints_after (Self.hints self.old) s space }
-        ensures rest { Self.rest self.new ≡ leaving (Self.rest self.old) s space };
+        ensures rest { Self.rest self.new ≡ leaving (Self.rest self.old) s space }
+    {
+        let mut held = Some(space);
+        self.take_back(s, &mut held);
+    }
 }

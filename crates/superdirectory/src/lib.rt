@@ -9,9 +9,15 @@ mod giving;
 mod granting;
 mod hint;
 mod latches;
+mod parts;
+mod solo;
+#[cfg(test)]
+mod tests;
 mod try_space;
 
 pub use giving::{give_all, lock_run, release, unlock_run};
 pub use granting::grant;
 pub use hint::{Hint, NoSpace};
 pub use latches::{Hints, Latches};
+pub use parts::grant_parts;
+pub use solo::Solo;

@@ -1,6 +1,8 @@
 -- A page on which a node stands is held.
-use Rattle.std.proofs.Common.{◌≡◌, ℕ, ◌+◌, ◌*◌, ◌≤◌, Bool, true, false, List, [], length, ap, refl, arith}
+use Rattle.std.proofs.Common.{◌≡◌, ℕ, true, List, [], length, ap, refl, subst, arith}
+use Rattle.std.specs.Prelude.{Option, None, Some, is_some, unwrap_or}
 use Rattle.tree_model.specs.Node.{HoldsNode}
+use Rattle.span_store.specs.Held.{HasRun, Held, bytes_on, has, page_at}
 
 -- a node's page isn't empty
 no-node : (page : List ℕ) → page ≡ [] → HoldsNode page → ⊥
@@ -9,7 +11,16 @@ no-node page e h =
     let room = h.sound.room in
     absurd (omega arith)
 
--- where nothing stands on a page that isn't held, a page that holds a node is held
-pub held-HoldsNode : (has : Bool) (page : List ℕ) → (has ≡ false → page ≡ []) → HoldsNode page → has ≡ true
-held-HoldsNode true page nothing h = refl
-held-HoldsNode false page nothing h = absurd (no-node page (nothing refl) h)
+-- nothing stands on a page that isn't held, so one that holds a node is held
+some-HoldsNode : (o : Option (List ℕ)) → HoldsNode (unwrap_or o []) → is_some o ≡ true
+some-HoldsNode None h = absurd (no-node [] refl h)
+some-HoldsNode (Some page) h = refl
+
+pub held-HoldsNode : (held : Held) (page : ℕ) → HoldsNode (bytes_on held page) → has held page ≡ true
+held-HoldsNode held page h = some-HoldsNode (page_at held page) h
+
+-- a page that is held is a run of one
+pub run_of_one : (held : Held) (page : ℕ) → has held page ≡ true → HasRun held page 1
+run_of_one held page is q from to =
+    let same : page ≡ q = omega arith in
+    subst (λ (k : ℕ). has held k ≡ true) same is

@@ -1,17 +1,16 @@
 -- One level down, for all nodes of a level.
-use Rattle.std.proofs.Common.{◌≡◌, ℕ, zero, suc, ◌+◌, ◌<◌, ◌≤◌, ◌^◌, Bool, true, false, List, [], ◌∷◌, ◌++◌, length, take, get_or, min, max, nat_lt, map, refl, sym, ap, subst, ◌∙◌, append-nil, append_assoc, length-append, arith}
-use Rattle.std.specs.List.{AllByRecursion, flat_map}
+use Rattle.std.proofs.Common.{◌≡◌, ℕ, zero, suc, ◌+◌, ◌<◌, ◌≤◌, ◌^◌, true, false, List, [], ◌∷◌, ◌++◌, length, take, get_or, min, max, nat_lt, refl, sym, ap, subst, ◌∙◌, append-nil, length-append, arith}
+use Rattle.std.specs.List.{AllByRecursion}
 use Rattle.std.proofs.lemmas.Grind.{flat_map-append}
 use Rattle.std.proofs.lemmas.List.{map-append, take_more}
 use Rattle.std.proofs.lemmas.Bool.{lt-ltb, ltb-true, ltb-false}
 use Rattle.tree_model.specs.declared.entry.Pair.{Pair}
 use Rattle.tree_model.specs.declared.entry.Placed.{Placed}
-use Rattle.tree_model.specs.declared.tree.Root.{Root}
-use Rattle.tree_model.specs.Tree.{Pages, bytes_of, pairs_on, HasNode, AreTrees, IsTree, entries_under, entries_of}
-use Rattle.tree_model.specs.Range.{placed, is_in_range, in_range, pairs_of}
+use Rattle.tree_model.specs.Tree.{Pages, bytes_of, pairs_on, AreTrees, IsTree, entries_under, entries_of}
+use Rattle.tree_model.specs.Range.{is_in_range, in_range, pairs_of}
 use Rattle.tree_read.specs.Cost.{below, nodes_in_range}
 use Rattle.tree_read.specs.Search.{EndsInside, IsNamed, top}
-use Rattle.tree_read.proofs.TreeLemmas.{AllByRecursion-append, AreTrees-append, AreTrees-first, AreTrees-rest, AreTrees-in_range, AreTrees-nil, AreTrees-root, under-root, at_start, bytes_of-cons, found, found-append, found-down, found-entries, in_range-each, in_range-nothing, length-found}
+use Rattle.tree_read.proofs.TreeLemmas.{AllByRecursion-append, AreTrees-append, AreTrees-first, AreTrees-rest, AreTrees-in_range, AreTrees-nil, AreTrees-root, under-root, at_start, bytes_of-cons, found, found-append, found-down, found-entries, in_range-each, in_range-nothing}
 
 -- one node more
 pub below-more : (at : Pages) (from to : ℕ) (ss : List Placed) (i : ℕ) (d : Placed) → i < length ss

@@ -3,3 +3,4 @@ pub mod HeldLemmas
 pub mod LevelLemmas
 pub mod MeterLemmas
 pub mod TreeLemmas
+pub mod CacheLemmas

@@ -1,5 +1,5 @@
 -- The counts of a port after several calls.
-use Rattle.std.proofs.Common.{◌≡◌, ℕ, ◌+◌, ◌/◌, ◌<◌, ◌≤◌, ◌^◌, ◌-◌, min, Bool, IsTrue, refl, ap, ◌∙◌, arith}
+use Rattle.std.proofs.Common.{◌≡◌, ℕ, ◌+◌, ◌/◌, ◌≤◌, ◌^◌, ◌-◌, min, refl, ap, ◌∙◌, arith}
 use Rattle.std.proofs.Math.Nat.{div_self}
 use Rattle.page_port.specs.Counts.{HasCause, Meter, Rose, after_read}
 use Rattle.tree_read.specs.Search.{Reads, Uses}

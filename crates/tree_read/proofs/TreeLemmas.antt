@@ -1,14 +1,14 @@
 -- The entries under nodes: how they are cut at a border of pairs, how many bytes they have, and which
 -- of them a range meets.
-use Rattle.std.proofs.Common.{◌≡◌, ℕ, zero, suc, ◌+◌, ◌*◌, ◌<◌, ◌≤◌, ◌⊎◌, Bool, true, false, cond, List, [], ◌∷◌, ◌++◌, length, min, max, nat_lt, refl, sym, ap, subst, ◌∙◌, append_assoc, append-nil, length-append, inl, inr, arith}
-use Rattle.std.specs.List.{AllByRecursion, flat_map, filter}
+use Rattle.std.proofs.Common.{◌≡◌, ℕ, zero, suc, ◌+◌, ◌<◌, ◌≤◌, true, false, List, [], ◌∷◌, ◌++◌, length, min, max, refl, ap, ◌∙◌, append-nil, length-append, arith}
+use Rattle.std.specs.List.{AllByRecursion, flat_map}
 use Rattle.std.proofs.lemmas.Bool.{ltb-false, ltb-true, le-ltb}
 use Rattle.std.proofs.lemmas.Grind.{flat_map-append}
 use Rattle.std.proofs.lemmas.List.Sums.{sum_by-append, sum_by-cons}
 use Rattle.tree_model.specs.declared.entry.Pair.{Pair}
 use Rattle.tree_model.specs.declared.entry.Placed.{Placed}
 use Rattle.tree_model.specs.Tree.{Pages, bytes_of, pairs_on, HasNode, AreTrees, IsTree, entries_under, entries_of, root_least}
-use Rattle.tree_model.specs.Range.{placed, is_in_range, in_range, pairs_of}
+use Rattle.tree_model.specs.Range.{is_in_range, in_range, pairs_of}
 use Rattle.tree_model.proofs.RangeLemmas.{in_range-append}
 
 -- a fact on each item from another

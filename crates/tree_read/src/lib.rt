@@ -6,15 +6,16 @@
 
 mod children;
 mod failure;
-mod held;
 mod load;
+mod page;
 mod range;
 mod scratch;
 mod search;
 mod start;
+#[cfg(test)]
+mod tests;
 
 pub use failure::TreeFail;
-pub use held::Held;
 pub use node_codec::Placed;
 pub use range::entries;
 pub use search::{find, length};

@@ -6,18 +6,21 @@ ghost use Rattle.page_port.specs.Counts.{HasCause, Meter};
 ghost use Rattle.tree_model.specs.Node.{HoldsNode, NodeBytes, room_of};
 ghost use Rattle.tree_model.specs.Tree.{HasNode, bytes_of, pairs_on};
 ghost use Rattle.page_cache.specs.Kept.{kept, KeepsSame};
+ghost use Rattle.tree_read.specs.Cost.{CostsNothing};
 ghost use Rattle.tree_read.specs.Scratch.{IsPrepared};
+ghost use Rattle.span_store.specs.Held.{AllSized, bytes_on};
 ghost use Rattle.tree_read.specs.Search.{KeepsNodes, Reads};
 
-use crate::held::Held;
+use crate::page::{has_page, read_page};
 use crate::scratch::Scratch;
 use node_codec::{Node, Pair, decode};
 use page_cache::Cache;
 use page_port::{DeviceFault, Port};
+use span_store::Holdings;
 
 /// Reads the node of this level that a pair names, and checks that it has just the pair's bytes.
-pub fn load<P: Port, H: Held<P>>(
-    held: &H,
+pub fn load<P: Port>(
+    held: &Holdings<P::S>,
     cache: &mut Cache,
     port: &mut P,
     level: u8,
@@ -25,16 +28,18 @@ pub fn load<P: Port, H: Held<P>>(
     scratch: &mut Scratch,
 ) -> Result<(), DeviceFault>
     requires page_size { IsTrue (is_page_size (P.meter port.old).page) }
-    requires sized { H.is_sized held.now (P.meter port.old).page }
+    requires sized { AllSized P.S.tells (P.meter port.old).page held.now }
     requires prepared { IsPrepared (P.meter port.old).page scratch.old }
-    requires kept { KeepsNodes P.S.tells (P.meter port.old).page (H.bytes_on held.now) cache.old }
-    requires told { IsTrue P.S.tells → HasNode (H.bytes_on held.now) pair.page level 0 pair.bytes }
+    requires kept { KeepsNodes P.S.tells (P.meter port.old).page (bytes_on held.now) cache.old }
+    requires told { IsTrue P.S.tells → HasNode (bytes_on held.now) pair.page level 0 pair.bytes }
     ensures sum { OnOk result (bytes_of scratch.new.node.pairs.items ≡ pair.bytes) }
     ensures told { OnOk result (IsTrue P.S.tells
-        → scratch.new.node.pairs.items ≡ pairs_on (H.bytes_on held.now) pair.page) }
+        → scratch.new.node.pairs.items ≡ pairs_on (bytes_on held.now) pair.page) }
     ensures prepared { IsPrepared (P.meter port.old).page scratch.new }
-    ensures kept { KeepsNodes P.S.tells (P.meter port.old).page (H.bytes_on held.now) cache.new }
+    ensures kept { KeepsNodes P.S.tells (P.meter port.old).page (bytes_on held.now) cache.new }
     ensures reads { Reads 1 (P.meter port.old) (P.meter port.new) }
+    ensures cached { IsSome (kept cache.old pair.page)
+        → CostsNothing cache.old cache.new (P.meter port.old) (P.meter port.new) }
     ensures cause { HasCause (P.meter port.old).faults (P.meter port.new).faults (IsErr result) }
 {
     node_on(held, cache, port, pair.page, scratch)?;
@@ -46,23 +51,25 @@ pub fn load<P: Port, H: Held<P>>(
 }
 
 /// Takes the node on a page from the cache, or else from the device for the next time.
-fn node_on<P: Port, H: Held<P>>(
-    held: &H,
+fn node_on<P: Port>(
+    held: &Holdings<P::S>,
     cache: &mut Cache,
     port: &mut P,
     page: u32,
     scratch: &mut Scratch,
 ) -> Result<(), DeviceFault>
     requires page_size { IsTrue (is_page_size (P.meter port.old).page) }
-    requires sized { H.is_sized held.now (P.meter port.old).page }
+    requires sized { AllSized P.S.tells (P.meter port.old).page held.now }
     requires prepared { IsPrepared (P.meter port.old).page scratch.old }
-    requires kept { KeepsNodes P.S.tells (P.meter port.old).page (H.bytes_on held.now) cache.old }
-    requires told { IsTrue P.S.tells → HoldsNode (H.bytes_on held.now page) }
+    requires kept { KeepsNodes P.S.tells (P.meter port.old).page (bytes_on held.now) cache.old }
+    requires told { IsTrue P.S.tells → HoldsNode (bytes_on held.now page) }
     ensures told { OnOk result (IsTrue P.S.tells
-        → NodeBytes (H.bytes_on held.now page) scratch.new.node.level scratch.new.node.pairs.items) }
+        → NodeBytes (bytes_on held.now page) scratch.new.node.level scratch.new.node.pairs.items) }
     ensures prepared { IsPrepared (P.meter port.old).page scratch.new }
-    ensures kept { KeepsNodes P.S.tells (P.meter port.old).page (H.bytes_on held.now) cache.new }
+    ensures kept { KeepsNodes P.S.tells (P.meter port.old).page (bytes_on held.now) cache.new }
     ensures reads { Reads 1 (P.meter port.old) (P.meter port.new) }
+    ensures cached { IsSome (kept cache.old page)
+        → CostsNothing cache.old cache.new (P.meter port.old) (P.meter port.new) }
     ensures cause { HasCause (P.meter port.old).faults (P.meter port.new).faults (IsErr result) }
 {
     if cache.get(page, &mut scratch.node) {
@@ -74,30 +81,30 @@ fn node_on<P: Port, H: Held<P>>(
 }
 
 /// Reads the node on a page from the device, by way of `bytes`, which has room for the page.
-fn fetch<P: Port, H: Held<P>>(
-    held: &H,
+fn fetch<P: Port>(
+    held: &Holdings<P::S>,
     port: &mut P,
     page: u32,
     bytes: &mut [u8],
     node: &mut Node,
 ) -> Result<(), DeviceFault>
     requires page_size { IsTrue (is_page_size (P.meter port.old).page) }
-    requires sized { H.is_sized held.now (P.meter port.old).page }
+    requires sized { AllSized P.S.tells (P.meter port.old).page held.now }
     requires whole { length bytes.old ≡ (P.meter port.old).page }
     requires room { room_of (P.meter port.old).page ≤ node.old.pairs.room }
-    requires told { IsTrue P.S.tells → HoldsNode (H.bytes_on held.now page) }
+    requires told { IsTrue P.S.tells → HoldsNode (bytes_on held.now page) }
     ensures told { OnOk result (IsTrue P.S.tells
-        → NodeBytes (H.bytes_on held.now page) node.new.level node.new.pairs.items) }
+        → NodeBytes (bytes_on held.now page) node.new.level node.new.pairs.items) }
     ensures small { OnOk result (length node.new.pairs.items ≤ room_of (P.meter port.old).page) }
     ensures room { node.new.pairs.room ≡ node.old.pairs.room }
     ensures reads { Reads 1 (P.meter port.old) (P.meter port.new) }
     ensures cause { HasCause (P.meter port.old).faults (P.meter port.new).faults (IsErr result) }
 {
-    if !held.has_page(page) {
+    if !has_page(held, page) {
         port.blame();
         return Err(DeviceFault);
     }
-    held.read_page(port, page, bytes)?;
+    read_page(held, port, page, bytes)?;
     if decode(bytes, node).is_ok() {
         return Ok(());
     }

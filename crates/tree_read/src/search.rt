@@ -6,17 +6,19 @@ ghost use Rattle.page_port.specs.Counts.{HasCause};
 ghost use Rattle.tree_model.specs.Node.{room_of};
 ghost use Rattle.tree_model.specs.Tree.{IsTree, entries_of};
 ghost use Rattle.tree_model.specs.Range.{in_range};
-ghost use Rattle.tree_read.specs.Search.{KeepsNodes, Reads};
+ghost use Rattle.span_store.specs.Held.{AllSized, bytes_on};
+ghost use Rattle.tree_read.specs.Cost.{AreKept, nodes_in_range};
+ghost use Rattle.tree_read.specs.Search.{KeepsNodes, Reads, top};
 
 use crate::children::child_at;
 use crate::failure::TreeFail;
-use crate::held::Held;
 use crate::load::load;
 use crate::scratch::Scratch;
 use crate::start::root_segment;
 use node_codec::Placed;
 use page_cache::Cache;
 use page_port::Port;
+use span_store::Holdings;
 use std::alloc::Global;
 use tree_model::Root;
 
@@ -32,24 +34,28 @@ pub fn length(root: &Root) -> u64
 /// # Errors
 /// `Fault` where the device failed or gave a page that isn't the node that was written: the port's count
 /// of faults rose. `Memory` where there was no memory.
-pub fn find<P: Port, H: Held<P>>(
+pub fn find<P: Port>(
     alloc: Global,
     root: &Root,
-    held: &H,
+    held: &Holdings<P::S>,
     cache: &mut Cache,
     port: &mut P,
     at: u64,
 ) -> Result<Placed, TreeFail>
     requires inside { at < root.now.length }
     requires page_size { IsTrue (is_page_size (P.meter port.old).page) }
-    requires sized { H.is_sized held.now (P.meter port.old).page }
-    requires kept { KeepsNodes P.S.tells (P.meter port.old).page (H.bytes_on held.now) cache.old }
-    requires told { IsTrue P.S.tells → IsTree (H.bytes_on held.now)
+    requires sized { AllSized P.S.tells (P.meter port.old).page held.now }
+    requires kept { KeepsNodes P.S.tells (P.meter port.old).page (bytes_on held.now) cache.old }
+    requires told { IsTrue P.S.tells → IsTree (bytes_on held.now)
         (room_of (P.meter port.old).page / 2) root.now.height root.now.page root.now.length }
     ensures told { IfOk result (λ segment. IsTrue P.S.tells
-        → in_range at (at + 1) 0 (entries_of (H.bytes_on held.now) root.now.height root.now.page) ≡ segment ∷ []) }
-    ensures kept { KeepsNodes P.S.tells (P.meter port.old).page (H.bytes_on held.now) cache.new }
+        → in_range at (at + 1) 0 (entries_of (bytes_on held.now) root.now.height root.now.page) ≡ segment ∷ []) }
+    ensures kept { KeepsNodes P.S.tells (P.meter port.old).page (bytes_on held.now) cache.new }
     ensures reads { Reads root.now.height (P.meter port.old) (P.meter port.new) }
+    ensures cached { IsTrue P.S.tells
+        → AreKept cache.old (nodes_in_range (bytes_on held.now) at (at + 1) root.now.height
+        (top root.now at (at + 1)))
+        → (P.meter port.new).read ≡ (P.meter port.old).read }
     ensures cause { HasCause (P.meter port.old).faults (P.meter port.new).faults
         (result ≡ Err TreeFail.Fault) }
 {

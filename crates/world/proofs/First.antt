@@ -1,81 +1,120 @@
--- The first machine, and what is left when nothing is open.
-use Rattle.std.proofs.Common.{◌≡◌, ◌≢◌, ℕ, zero, suc, ◌<◌, ◌≤◌, ◌^◌, Bool, false, List, [], ◌∷◌, length, map, set, get_or, replicate, Option, Some, None, refl, ap, ◌∙◌, sym, subst, arith, inl, inr}
-use Rattle.std.proofs.lemmas.Bool.{cases_eq, cases_lt, cases_Bool, eq-eqb, false≢true}
-use Rattle.std.proofs.lemmas.List.{get_or_past, get_or-set_same, get_or-set_other, length-set}
+-- The world before its first command, and after its last.
+use Rattle.std.proofs.Common.{◌≡◌, ◌≢◌, ℕ, zero, suc, ◌+◌, ◌<◌, ◌≤◌, Bool, List, [], ◌∷◌, false, length, map, replicate, set, get_or, Option, Some, None, ◌⊎◌, slice_get, zero-add, refl, ap, ◌∙◌, sym, subst, arith, inl, inr}
+use Rattle.std.specs.List.{range_with_len}
+use Rattle.std.proofs.lemmas.Bool.{cases_eq, cases_lt, cases_Bool}
+use Rattle.std.proofs.lemmas.List.{get_or-set_same, get_or-set_other, get_or_past, length-set, length-map, length-replicate}
+use Rattle.std.proofs.lemmas.List.FromFn.{length-map-range_with_len, get_or-map-range_with_len}
 use Rattle.eos_ops.specs.declared.limits.TheConstants.{SESSIONS}
 use Rattle.eos_ops.specs.declared.plain.Plain.TheVariants.{Absent}
 use Rattle.history.specs.Event.{Closes}
-use Rattle.machine.specs.Machine.{Slot, Machine, no_slot, no_seat, new_slot, fresh, seat_in, is_active, is_holder, database, AtRest}
-use Rattle.machine.specs.Next.{settled, stamp_of, next}
-use Rattle.world.specs.Place.{Place, no_place, seat_of}
-use Rattle.world.specs.Ties.{place_in, slot_in, viewed, IsGoodPlace, IsGoodSlot, IsTied, is_among}
-use Rattle.world.proofs.Ties.{Agree-none}
-use Rattle.world.proofs.Viewed.{seat_at-viewed}
+use Rattle.machine.specs.Machine.{Slot, Machine, no_slot, no_seat, new_slot, slot_at, seat_in, is_active, is_holder, database, fresh, AtRest}
+use Rattle.machine.specs.Next.{next, settled, stamp_of}
+use Rattle.machine.proofs.Places.{get_or_map}
+use Rattle.shadow_txn.specs.Held.{object_in}
+use Rattle.world.specs.Session.{Object, Session, IsSound}
+use Rattle.world.specs.Start.{first_object, first_txn}
+use Rattle.world.specs.Ties.{no_txn, txn_at, held_in, slot_seen, seat_of, viewed, IsTied}
+use Rattle.world.proofs.Hands.{txn_at-past, held_in-none}
+use Rattle.world.proofs.Viewed.{slot_at-viewed, seat_at-viewed, slots-viewed}
 
-get_or-replicate_default : {A : Type 0} (n i : ℕ) (d : A) → get_or (replicate n d) i d ≡ d
-get_or-replicate_default zero i d = refl
-get_or-replicate_default (suc n) zero d = refl
-get_or-replicate_default (suc n) (suc i) d = get_or-replicate_default n i d
+-- nothing is out
+first-place : (n o : ℕ) → (slice_get (replicate n (Some first_object)) o ≡ None) ⊎ (slice_get (replicate n (Some first_object)) o ≡ Some (Some first_object))
+first-place zero o = inl refl
+first-place (suc n) zero = inr refl
+first-place (suc n) (suc o) = first-place n o
 
-place_in-first : (n s : ℕ) → place_in (replicate n no_place) s ≡ no_place
-place_in-first n zero = refl
-place_in-first n (suc i) = get_or-replicate_default n i no_place
+first-seen : (n o : ℕ) (held : Slot) → slot_seen (slice_get (replicate n (Some first_object)) o) held ≡ no_slot
+first-seen n o held = elim (first-place n o) [
+  | inl none ↦ ap (λ place. slot_seen place held) none
+  | inr home ↦ ap (λ place. slot_seen place held) home
+]
 
-map-replicate_all : {A B : Type 0} (f : A → B) (n : ℕ) (x : A) → map f (replicate n x) ≡ replicate n (f x)
-map-replicate_all f zero x = refl
-map-replicate_all f (suc n) x = ap (λ xs. f x ∷ xs) (map-replicate_all f n x)
+absent-at : (n o : ℕ) → get_or (replicate n Absent) o Absent ≡ Absent
+absent-at zero o = refl
+absent-at (suc n) zero = refl
+absent-at (suc n) (suc o) = absent-at n o
 
-length-replicate_all : {A : Type 0} (n : ℕ) (x : A) → length (replicate n x) ≡ n
-length-replicate_all zero x = refl
-length-replicate_all (suc n) x = let rest : length (replicate n x) ≡ n = length-replicate_all n x in omega arith
+first-seats : (objects a n : ℕ) → map seat_of (map (first_txn objects) (range_with_len a n)) ≡ replicate n no_seat
+first-seats objects a zero = refl
+first-seats objects a (suc n) = ap (λ seats. no_seat ∷ seats) (first-seats objects (a + 1) n)
 
-pub viewed-first : (n : ℕ) → viewed (replicate SESSIONS no_place) (replicate n no_slot) ≡ fresh SESSIONS (replicate n Absent)
+-- the machine over fresh objects
+pub viewed-first : (n : ℕ) → viewed (replicate n (Some first_object)) (map (first_txn n) (range_with_len 0 SESSIONS)) ≡ fresh SESSIONS (replicate n Absent)
 viewed-first n =
-    ap (λ seats. record { slots = replicate n no_slot; seats = seats }) (map-replicate_all seat_of SESSIONS no_place)
-    ∙ ap (λ slots. record { slots = slots; seats = replicate SESSIONS no_seat }) (sym (map-replicate_all new_slot n Absent))
+    let shelf : List (Option Object) = replicate n (Some first_object) in
+    let txns : List Session = map (first_txn n) (range_with_len 0 SESSIONS) in
+    let slots : (viewed shelf txns).slots ≡ map new_slot (replicate n Absent) =
+    slots-viewed shelf txns (map new_slot (replicate n Absent)) (length-map (replicate n Absent) new_slot ∙ length-replicate n Absent ∙ sym (length-replicate n (Some first_object)))
+    (λ o. first-seen n o (held_in txns o) ∙ sym (get_or_map new_slot (replicate n Absent) o Absent ∙ ap new_slot (absent-at n o))) in
+    ap (λ slots. record { slots = slots; seats = map seat_of txns }) slots
+    ∙ ap (λ seats. record { slots = map new_slot (replicate n Absent); seats = seats }) (first-seats n 0 SESSIONS)
 
-good-no_place : IsGoodPlace no_place
-good-no_place = record { last = omega arith; open_ended = λ e. absurd (false≢true e); idle = λ _. refl }
+first-at : (n i : ℕ) → i < SESSIONS → txn_at (map (first_txn n) (range_with_len 0 SESSIONS)) i ≡ first_txn n i
+first-at n i within = get_or-map-range_with_len (first_txn n) 0 SESSIONS i i no_txn within (zero-add i)
 
-good-no_slot : IsGoodSlot no_slot
-good-no_slot = record { last = omega arith; held = λ e. absurd (false≢true e); rests = λ _. refl }
+first-empty : (n i : ℕ) → (txn_at (map (first_txn n) (range_with_len 0 SESSIONS)) i).held ≡ []
+first-empty n i = elim (cases_lt i SESSIONS) [
+  | inl within ↦ ap (λ (t : Session). t.held) (first-at n i within)
+  | inr past ↦
+      let size : length (map (first_txn n) (range_with_len 0 SESSIONS)) ≡ SESSIONS = length-map-range_with_len (first_txn n) 0 SESSIONS in
+      ap (λ (t : Session). t.held) (txn_at-past (map (first_txn n) (range_with_len 0 SESSIONS)) i (omega (arith, past, size)))
+]
 
-pub tied-first : (n : ℕ) → n < 2 ^ 32 → IsTied (replicate SESSIONS no_place) (replicate n no_slot)
-tied-first n fits =
-    let size : length (replicate n no_slot) ≡ n = length-replicate_all n no_slot in
-    record {
-      sessions = length-replicate_all SESSIONS no_place;
-      objects = omega (arith, size, fits);
-      agree = Agree-none (length (replicate n no_slot)) (λ s. (place_in (replicate SESSIONS no_place) s).held) (λ o. (slot_in (replicate n no_slot) o).holder)
-          (λ s. ap (λ p. p.held) (place_in-first SESSIONS s)) (λ o. ap (λ x. x.holder) (get_or-replicate_default n o no_slot));
-      good_places = λ s. subst IsGoodPlace (sym (place_in-first SESSIONS s)) good-no_place;
-      good_slots = λ o. subst IsGoodSlot (sym (get_or-replicate_default n o no_slot)) good-no_slot;
-    }
+sound-first : (n i : ℕ) → IsSound (replicate n (Some first_object)) (first_txn n i)
+sound-first n i = record {
+  objects = sym (length-replicate n (Some first_object));
+  few = omega arith;
+  distinct = tt;
+  idle = λ idle. refl;
+  out = λ o x found. absurd cc;
+}
 
--- nobody holds what no session holds
-free-from : (holder : Option ℕ) → ((s : ℕ) → is_holder s holder ≡ false) → holder ≡ None
-free-from None nobody = refl
-free-from (Some s) nobody = absurd (false≢true (sym (nobody s) ∙ eq-eqb s s refl))
+pub tied-first : (n : ℕ) → IsTied (replicate n (Some first_object)) (map (first_txn n) (range_with_len 0 SESSIONS))
+tied-first n = record {
+  sessions = length-map-range_with_len (first_txn n) 0 SESSIONS;
+  numbers = λ i within. ap (λ (t : Session). t.session) (first-at n i within);
+  sound = λ i within. subst (IsSound (replicate n (Some first_object))) (sym (first-at n i within)) (sound-first n i);
+  alone = λ i j o apart some. ap (object_in o) (first-empty n j);
+  taken = λ o out. elim (first-place n o) [
+    | inl none ↦ absurd cc
+    | inr home ↦ absurd cc
+  ];
+}
+
+-- what isn't held is on the shelf, in two equal versions
+resting : (place : Option (Option Object)) → ((slot_seen place no_slot).holder ≡ None) × ((slot_seen place no_slot).working ≡ (slot_seen place no_slot).committed)
+resting None = (refl, refl)
+resting (Some None) = (refl, refl)
+resting (Some (Some x)) = (refl, refl)
 
 -- past the last session there is nothing open
-idle-past : (places : List Place) (s : ℕ) → length places < s → (place_in places s).active ≡ false
-idle-past places zero past = refl
-idle-past places (suc i) past = ap (λ p. p.active) (get_or_past places i no_place (omega arith))
+idle-at : (shelf : List (Option Object)) (txns : List Session) (m : Machine) → viewed shelf txns ≡ m → IsTied shelf txns → ((s : ℕ) → s ≤ SESSIONS → is_active m s ≡ false) → (i : ℕ) → (txn_at txns i).is_open ≡ false
+idle-at shelf txns m view tied closed i = elim (cases_lt i SESSIONS) [
+  | inl within ↦ sym (ap (λ n. is_active n (suc i)) (sym view) ∙ ap (λ seat. seat.active) (seat_at-viewed shelf txns i)) ∙ closed (suc i) (omega arith)
+  | inr past ↦ ap (λ (t : Session). t.is_open) (txn_at-past txns i (omega (arith, past, tied.sessions)))
+]
 
 -- where no session has a transaction open the machine is at rest
-pub rests-from : (places : List Place) (slots : List Slot) (m : Machine) → viewed places slots ≡ m → IsTied places slots → ((s : ℕ) → s ≤ SESSIONS → is_active m s ≡ false) → AtRest m
-rests-from places slots m view tied closed =
-    let active : (s : ℕ) → (place_in places s).active ≡ false = λ s. elim (cases_lt SESSIONS s) [
-      | inl past ↦ idle-past places s (omega (arith, past, tied.sessions))
-      | inr there ↦ sym (ap (λ n. is_active n s) (sym view) ∙ ap (λ seat. seat.active) (seat_at-viewed places slots s)) ∙ closed s there
-    ] in
-    let free : (o : ℕ) → (slot_in slots o).holder ≡ None = λ o. free-from (slot_in slots o).holder (λ s.
-    sym (tied.agree.holds s o) ∙ ap (is_among o) ((tied.good_places s).idle (active s))) in
+pub rests-from : (shelf : List (Option Object)) (txns : List Session) (m : Machine) → viewed shelf txns ≡ m → IsTied shelf txns → ((s : ℕ) → s ≤ SESSIONS → is_active m s ≡ false) → AtRest m
+rests-from shelf txns m view tied closed =
     subst AtRest view (record {
-      idle = λ s. ap (λ seat. seat.active) (seat_at-viewed places slots s) ∙ active s;
-      free = free;
-      equal = λ o. (tied.good_slots o).rests (free o);
+      idle = idle;
+      free = λ o. ap (λ slot. slot.holder) (rest o) ∙ (resting (slice_get shelf o)).0;
+      equal = λ o. subst (λ (slot : Slot). slot.working ≡ slot.committed) (sym (rest o)) (resting (slice_get shelf o)).1;
     })
+  where
+    idle : (s : ℕ) → is_active (viewed shelf txns) s ≡ false
+    idle zero = refl
+    idle (suc i) = ap (λ seat. seat.active) (seat_at-viewed shelf txns i) ∙ idle-at shelf txns m view tied closed i
+
+    empty : (i : ℕ) → (txn_at txns i).held ≡ []
+    empty i = elim (cases_lt i SESSIONS) [
+      | inl within ↦ (tied.sound i within).idle (idle-at shelf txns m view tied closed i)
+      | inr past ↦ ap (λ (t : Session). t.held) (txn_at-past txns i (omega (arith, past, tied.sessions)))
+    ]
+
+    rest : (o : ℕ) → slot_at (viewed shelf txns) o ≡ slot_seen (slice_get shelf o) no_slot
+    rest o = slot_at-viewed shelf txns o ∙ ap (slot_seen (slice_get shelf o)) (held_in-none txns o (λ j. ap (object_in o) (empty j)))
 
 -- an abort keeps the committed objects
 settled-committed : (s stamp : ℕ) (slot : Slot) → (settled s false stamp slot).committed ≡ slot.committed
@@ -107,3 +146,8 @@ active-closed m (suc i) (suc j) committed others = elim (cases_eq j i) [
   ]
   | inr other ↦ ap (λ seat. seat.active) (get_or-set_other m.seats i j (record { active = false; stamp = stamp_of m (suc i) }) no_seat other) ∙ others (omega arith)
 ]
+
+-- all of them on the shelf
+pub map-replicated : {A B : Type 0} (f : A → B) (n : ℕ) (x : A) → map f (replicate n x) ≡ replicate n (f x)
+map-replicated f zero x = refl
+map-replicated f (suc n) x = ap (λ ys. f x ∷ ys) (map-replicated f n x)

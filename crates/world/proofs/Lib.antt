@@ -1,9 +1,15 @@
+pub mod Closing
 pub mod Counts
 pub mod Deeds
 pub mod Endings
 pub mod First
-pub mod Kept
+pub mod Hands
+pub mod HeldLists
 pub mod Readings
+pub mod Serving
+pub mod Sights
 pub mod Steps
-pub mod Ties
+pub mod Taking
+pub mod Tied
 pub mod Viewed
+pub mod Working

@@ -1,121 +1,162 @@
--- What the code reads of a place or a slot is what the machine has there.
-use Rattle.std.proofs.Common.{◌≡◌, ℕ, zero, suc, ◌++◌, ◌∷◌, ◌+◌, ◌-◌, ◌<◌, ◌≤◌, Bool, true, false, ◌==◌, nat_le, List, [], length, set, map, max, get_or, Option, Some, None, is_some, if◌then◌else◌, refl, ap, ◌∙◌, sym, arith, inl, inr, ◌⊎◌}
-use Rattle.std.proofs.lemmas.Bool.{eqb-true, false≢true}
-use Rattle.std.proofs.lemmas.Option.{none-some}
-use Rattle.eos_ops.specs.declared.reply.Reply.TheVariants.{Full, Busy, Worn}
-use Rattle.std.proofs.Math.Seq.{map-set_same}
+-- What the code reads of a session is what the machine has there, and what it writes is the machine's next state.
+use Rattle.std.proofs.Common.{◌≡◌, ◌≢◌, ℕ, zero, suc, ◌+◌, ◌-◌, ◌<◌, ◌≤◌, ◌^◌, ◌==◌, ◌↔◌, Bool, true, false, List, length, set, get_or, Option, Some, None, Result, Ok, Err, if◌then◌else◌, refl, ap, sym, ◌∙◌, subst, arith, inl, inr}
+use Rattle.std.specs.Prelude.{OnOk, OnErr}
+use Rattle.std.proofs.lemmas.Bool.{eq-eqb, ne_eqb, false≢true, cases_Bool}
+use Rattle.std.proofs.lemmas.List.{get_or_default, set-get_or}
+use Rattle.std.proofs.lemmas.Option.{slice_get_within}
 use Rattle.eos_ops.specs.declared.command.Command.{Command}
-use Rattle.eos_ops.specs.declared.limits.TheConstants.{SESSIONS, LAST_STAMP, MAX_HELD}
+use Rattle.eos_ops.specs.declared.command.Command.TheVariants.{Begin}
+use Rattle.eos_ops.specs.declared.limits.TheConstants.{SESSIONS, LAST_STAMP}
+use Rattle.eos_ops.specs.declared.reply.Reply.{Reply}
+use Rattle.eos_ops.specs.declared.reply.Reply.TheVariants as reply
+use Rattle.eos_ops.specs.Objects.{object_of, is_too_long, reply_in}
 use Rattle.history.specs.Event.{Opens, Closes}
-use Rattle.machine.specs.Machine.{Slot, Machine, slot_at, seat_at, is_active, is_holder, with_slot, with_seat, seats_with}
-use Rattle.machine.specs.Next.{settled, greatest_held, stamp_of, next}
-use Rattle.machine.specs.Replies.{object_refused}
-use Rattle.world.specs.Place.{Place, no_place, seat_of}
-use Rattle.world.specs.Refused.{slot_refused}
-use Rattle.world.specs.Served.{served}
-use Rattle.world.specs.Ties.{place_in, slot_in, viewed, IsTied}
-use Rattle.world.proofs.Viewed.{place_in-read, slot_in-read, seat_at-viewed, viewed-with_seat, object_refused-present}
+use Rattle.machine.specs.Machine.{Slot, Machine, slot_at, seat_at, is_active, with_slot}
+use Rattle.machine.specs.Next.{next}
+use Rattle.machine.specs.Replies.{IsStep, object_refused}
+use Rattle.shadow_txn.specs.declared.fails.BeginFail.{BeginFail}
+use Rattle.shadow_txn.specs.declared.fails.BeginFail.TheVariants.{Active, Worn}
+use Rattle.shadow_txn.specs.Transaction.{begun}
+use Rattle.world.specs.Served.{served, IsKept, IsAnswer, IsEnded}
+use Rattle.world.specs.Session.{Object, Session, begin_reply, seen_by, refused_by, IsSound}
+use Rattle.world.specs.Ties.{no_txn, txn_at, seat_of, viewed, IsTied}
+use Rattle.world.proofs.Deeds.{refusal_at}
+use Rattle.world.proofs.Endings.{viewed-ended}
+use Rattle.world.proofs.Sights.{seen-some}
+use Rattle.world.proofs.Steps.{step-refused, step-memory, step-served, step-active, step-worn, step-begins}
+use Rattle.world.proofs.Tied.{tied-set, slot_of-seen}
+use Rattle.world.proofs.Viewed.{slot_at-viewed, seat_at-viewed, viewed-begun, viewed-served, object_refused-viewed}
+
+-- the session's number is one more than its place
+pub number : (s : ℕ) → 0 < s → suc (s - 1) ≡ s
+number zero from_one = absurd (omega arith)
+number (suc i) from_one = let at : suc i - 1 ≡ i = omega arith in ap suc at
+
+pub below : (s : ℕ) → 0 < s → s ≤ SESSIONS → s - 1 < SESSIONS
+below s from_one upto = omega arith
 
 -- the place that was read is the session's
-pub place-read : (places : List Place) (slots : List Slot) (s : ℕ) (place : Place) → 0 < s → s ≤ SESSIONS → IsTied places slots → place ≡ get_or places (s - 1) place → place ≡ place_in places s
-place-read places slots s place from_one upto tied read = place_in-read places s place from_one (omega (arith, tied.sessions)) read
+pub txn-read : (shelf : List (Option Object)) (txns : List Session) (s : ℕ) (txn : Session) → 0 < s → s ≤ SESSIONS → IsTied shelf txns → txn ≡ get_or txns (s - 1) txn → txn ≡ txn_at txns (s - 1)
+txn-read shelf txns s txn from_one upto tied read = read ∙ get_or_default txns (s - 1) txn no_txn (omega (arith, from_one, upto, tied.sessions))
 
-pub is_active-read : (places : List Place) (slots : List Slot) (m : Machine) (s : ℕ) (place : Place) → viewed places slots ≡ m → 0 < s → s ≤ SESSIONS → IsTied places slots → place ≡ get_or places (s - 1) place → is_active m s ≡ place.active
-is_active-read places slots m s place view from_one upto tied read =
-    ap (λ n. is_active n s) (sym view) ∙ ap (λ seat. seat.active) (seat_at-viewed places slots s) ∙ ap (λ p. p.active) (sym (place-read places slots s place from_one upto tied read))
+pub is_active-read : (shelf : List (Option Object)) (txns : List Session) (m : Machine) (s : ℕ) → viewed shelf txns ≡ m → 0 < s → is_active m s ≡ (txn_at txns (s - 1)).is_open
+is_active-read shelf txns m s view from_one =
+    ap (λ t. is_active m t) (sym (number s from_one)) ∙ ap (λ n. is_active n (suc (s - 1))) (sym view) ∙ ap (λ seat. seat.active) (seat_at-viewed shelf txns (s - 1))
 
-pub stamp-read : (places : List Place) (slots : List Slot) (m : Machine) (s : ℕ) (place : Place) → viewed places slots ≡ m → 0 < s → s ≤ SESSIONS → IsTied places slots → place ≡ get_or places (s - 1) place → (seat_at m s).stamp ≡ place.stamp
-stamp-read places slots m s place view from_one upto tied read =
-    ap (λ n. (seat_at n s).stamp) (sym view) ∙ ap (λ seat. seat.stamp) (seat_at-viewed places slots s) ∙ ap (λ p. p.stamp) (sym (place-read places slots s place from_one upto tied read))
+stamp-read : (shelf : List (Option Object)) (txns : List Session) (m : Machine) (s : ℕ) → viewed shelf txns ≡ m → 0 < s → (seat_at m s).stamp ≡ (txn_at txns (s - 1)).stamp
+stamp-read shelf txns m s view from_one =
+    ap (λ t. (seat_at m t).stamp) (sym (number s from_one)) ∙ ap (λ n. (seat_at n (suc (s - 1))).stamp) (sym view) ∙ ap (λ seat. seat.stamp) (seat_at-viewed shelf txns (s - 1))
 
-pub slot-read : (places : List Place) (slots : List Slot) (m : Machine) (o : ℕ) (slot : Slot) → viewed places slots ≡ m → o < length slots → slot ≡ get_or slots o slot → slot_at m o ≡ slot
-slot-read places slots m o slot view within read = ap (λ n. slot_at n o) (sym view) ∙ sym (slot_in-read slots o slot within read)
+-- a place where nothing has changed
+pub set-as_was : (txns : List Session) (i : ℕ) (txn : Session) → txn ≡ txn_at txns i → set txns i txn ≡ txns
+set-as_was txns i txn same = ap (set txns i) same ∙ set-get_or txns i no_txn
 
--- why a session can't have an object that is there
-pub refused-read : (places : List Place) (slots : List Slot) (m : Machine) (s o : ℕ) → viewed places slots ≡ m → IsTied places slots → o < length slots
-    → object_refused m s o ≡ slot_refused s (nat_le MAX_HELD (length (place_in places s).held)) (slot_in slots o)
-refused-read places slots m s o view tied within = ap (λ n. object_refused n s o) (sym view) ∙ object_refused-present places slots s o tied within
+-- what a begin said of the session
+pub record Begins {U : Type 0} (result : Result U BeginFail) (txn txn' : Session) : Type 0 where
+  pub ok : OnOk result (txn' ≡ begun txn)
+  pub active : (result ≡ Err Active) ↔ (txn.is_open ≡ true)
+  pub worn : (result ≡ Err Worn) ↔ ((txn.is_open ≡ false) × (txn.stamp ≡ 2 ^ 62))
+  pub err : OnErr result (txn' ≡ txn)
 
-is_holder-true : (s : ℕ) (holder : Option ℕ) → is_holder s holder ≡ true → holder ≡ Some s
-is_holder-true s None mine = absurd (false≢true mine)
-is_holder-true s (Some t) mine = ap (λ u. Some u) (eqb-true t s mine)
+kept-begun : (shelf : List (Option Object)) (txn : Session) → IsSound shelf txn → IsKept shelf txn shelf (begun txn)
+kept-begun shelf txn sound = record {
+  session = refl;
+  size = refl;
+  sides = λ o. refl;
+  sound = record { objects = sound.objects; few = sound.few; distinct = sound.distinct; idle = λ idle. absurd (false≢true (sym idle)); out = sound.out };
+}
 
-holder-none : (holder : Option ℕ) → is_some holder ≡ false → holder ≡ None
-holder-none None free = refl
-holder-none (Some t) free = absurd (false≢true (sym free))
+-- a begin keeps the ties
+pub tied-begun : {U : Type 0} (result : Result U BeginFail) (shelf : List (Option Object)) (txns : List Session) (i : ℕ) (txn' : Session) → i < SESSIONS → IsTied shelf txns → Begins result (txn_at txns i) txn' → IsTied shelf (set txns i txn')
+tied-begun (Ok done) shelf txns i txn' within tied begins =
+    subst (λ t. IsTied shelf (set txns i t)) (sym begins.ok) (tied-set shelf txns i shelf (begun (txn_at txns i)) within tied (kept-begun shelf (txn_at txns i) (tied.sound i within)))
+tied-begun (Err fail) shelf txns i txn' within tied begins = subst (IsTied shelf) (sym (set-as_was txns i txn' begins.err)) tied
 
--- what an object that isn't refused is: held by the session, or free for it to take
-abbrev pub IsFree : ℕ → Bool → Slot → Type 0
-IsFree s is_full slot = (slot.holder ≡ Some s) ⊎ ((is_full ≡ false) × (slot.holder ≡ None) × ((slot.stamp == LAST_STAMP) ≡ false))
+-- where it isn't refused, nothing is open and the stamp isn't the last one
+not-refused : {U : Type 0} (done : U) (txn txn' : Session) → Begins (Ok done) txn txn' → (txn.is_open ≡ false) × (txn.stamp ≢ 2 ^ 62)
+not-refused done txn txn' begins =
+    let idle : txn.is_open ≡ false = elim (cases_Bool txn.is_open) [
+      | inl active ↦ let fails = begins.active.1 active in absurd cc
+      | inr idle ↦ idle
+    ] in
+    (idle, λ last. let fails = begins.worn.1 (idle, last) in absurd cc)
 
-free-cases : (mine is_full busy worn : Bool) → (if mine then None else if is_full then Some Full else if busy then Some Busy else if worn then Some Worn else None) ≡ None
-    → (mine ≡ true) ⊎ ((is_full ≡ false) × (busy ≡ false) × (worn ≡ false))
-free-cases true is_full busy worn h = inl refl
-free-cases false true busy worn h = absurd (none-some Full (sym h))
-free-cases false false true worn h = absurd (none-some Busy (sym h))
-free-cases false false false true h = absurd (none-some Worn (sym h))
-free-cases false false false false h = inr (refl, refl, refl)
+-- and is a step of the machine
+pub step-begun : {U : Type 0} (result : Result U BeginFail) (shelf : List (Option Object)) (txns : List Session) (m : Machine) (s : ℕ) (txn' : Session) → viewed shelf txns ≡ m → 0 < s → s ≤ SESSIONS → IsTied shelf txns
+    → Begins result (txn_at txns (s - 1)) txn' → IsStep m s Begin (begin_reply result) (viewed shelf (set txns (s - 1) txn'))
+step-begun (Ok done) shelf txns m s txn' view from_one upto tied begins =
+    let within : s - 1 < SESSIONS = below s from_one upto in
+    let free = not-refused done (txn_at txns (s - 1)) txn' begins in
+    let active : is_active m s ≡ false = is_active-read shelf txns m s view from_one ∙ free.0 in
+    let last : ((seat_at m s).stamp == LAST_STAMP) ≡ false = ne_eqb (seat_at m s).stamp LAST_STAMP (λ e. free.1 (sym (stamp-read shelf txns m s view from_one) ∙ e)) in
+    let state : viewed shelf (set txns (s - 1) txn') ≡ next m s Opens =
+    ap (λ t. viewed shelf (set txns (s - 1) t)) begins.ok
+    ∙ viewed-begun shelf txns (s - 1) within tied (kept-begun shelf (txn_at txns (s - 1)) (tied.sound (s - 1) within))
+    ∙ ap (λ n. next n (suc (s - 1)) Opens) view ∙ ap (λ t. next m t Opens) (number s from_one) in
+    subst (λ n. IsStep m s Begin reply.Ok n) (sym state) (step-begins m s active last)
+step-begun (Err Active) shelf txns m s txn' view from_one upto tied begins =
+    let state : viewed shelf (set txns (s - 1) txn') ≡ m = ap (viewed shelf) (set-as_was txns (s - 1) txn' begins.err) ∙ view in
+    subst (λ n. IsStep m s Begin reply.Active n) (sym state) (step-active m s (is_active-read shelf txns m s view from_one ∙ begins.active.0 refl))
+step-begun (Err Worn) shelf txns m s txn' view from_one upto tied begins =
+    let state : viewed shelf (set txns (s - 1) txn') ≡ m = ap (viewed shelf) (set-as_was txns (s - 1) txn' begins.err) ∙ view in
+    let why = begins.worn.0 refl in
+    subst (λ n. IsStep m s Begin reply.Worn n) (sym state)
+    (step-worn m s (is_active-read shelf txns m s view from_one ∙ why.0) (eq-eqb (seat_at m s).stamp LAST_STAMP (stamp-read shelf txns m s view from_one ∙ why.1)))
 
-pub IsFree-from : (s : ℕ) (is_full : Bool) (slot : Slot) → slot_refused s is_full slot ≡ None → IsFree s is_full slot
-IsFree-from s is_full slot h = elim (free-cases (is_holder s slot.holder) is_full (is_some slot.holder) (slot.stamp == LAST_STAMP) h) [
-  | inl mine ↦ inl (is_holder-true s slot.holder mine)
-  | inr rest ↦ inr (rest.0, holder-none slot.holder rest.1, rest.2)
-]
+-- a session where no transaction is open
+pub step-idle_object : (m : Machine) (s : ℕ) (c : Command) (o : ℕ) → is_too_long c ≡ false → object_of c ≡ Some o → is_active m s ≡ false → IsStep m s c reply.Idle m
+step-idle_object m s c o short is idle = step-refused m s c o reply.Idle short is (ap (λ active. if active then object_refused m s o else Some reply.Idle) idle)
 
--- a transaction begins
-pub viewed-begin : (places : List Place) (slots : List Slot) (m : Machine) (s : ℕ) → viewed places slots ≡ m → 0 < s
-    → viewed (set places (s - 1) (record { active = true; stamp = (place_in places s).stamp; held = (place_in places s).held })) slots ≡ next m s Opens
-viewed-begin places slots m s view from_one =
-    viewed-with_seat places slots s (record { active = true; stamp = (place_in places s).stamp; held = (place_in places s).held }) from_one
-    ∙ ap (λ stamp. with_seat (viewed places slots) s (record { active = true; stamp = stamp })) (sym (ap (λ seat. seat.stamp) (seat_at-viewed places slots s)))
-    ∙ ap (λ n. next n s Opens) view
+-- an answer keeps the ties
+pub tied-answer : (c : Command) (o : ℕ) (r : Reply) (shelf : List (Option Object)) (txns : List Session) (i : ℕ) (shelf' : List (Option Object)) (txn' : Session) → i < SESSIONS → IsTied shelf txns
+    → IsAnswer c o r shelf (txn_at txns i) shelf' txn' → IsTied shelf' (set txns i txn')
+tied-answer c o r shelf txns i shelf' txn' within tied (inl refused) = subst (λ xs. IsTied xs (set txns i txn')) (sym refused.1) (subst (IsTied shelf) (sym (set-as_was txns i txn' refused.2)) tied)
+tied-answer c o r shelf txns i shelf' txn' within tied (inr (inl memory)) = subst (λ xs. IsTied xs (set txns i txn')) (sym memory.2) (subst (IsTied shelf) (sym (set-as_was txns i txn' memory.3)) tied)
+tied-answer c o r shelf txns i shelf' txn' within tied (inr (inr done)) = tied-set shelf txns i shelf' txn' within tied done.1.kept
 
--- the stamp of an end
-pub stamp_of-read : (places : List Place) (slots : List Slot) (m : Machine) (s last : ℕ) → viewed places slots ≡ m → last ≡ greatest_held s slots
-    → max last (place_in places s).stamp + 1 ≡ stamp_of m s
-unfolding stamp_of
-stamp_of-read places slots m s last view greatest =
-    let seat : (seat_at (viewed places slots) s).stamp ≡ (place_in places s).stamp = ap (λ x. x.stamp) (seat_at-viewed places slots s) in
-    let here : max last (place_in places s).stamp + 1 ≡ max (seat_at (viewed places slots) s).stamp (greatest_held s slots) + 1 = omega (arith, seat, greatest) in
-    here ∙ ap (λ n. max (seat_at n s).stamp (greatest_held s n.slots) + 1) view
+-- and is a step of the machine
+pub step-answer : (c : Command) (o : ℕ) (r : Reply) (shelf : List (Option Object)) (txns : List Session) (m : Machine) (s : ℕ) (shelf' : List (Option Object)) (txn' : Session) → viewed shelf txns ≡ m → 0 < s → s ≤ SESSIONS
+    → is_too_long c ≡ false → object_of c ≡ Some o → is_active m s ≡ true → IsTied shelf txns → IsAnswer c o r shelf (txn_at txns (s - 1)) shelf' txn' → IsStep m s c r (viewed shelf' (set txns (s - 1) txn'))
+step-answer c o r shelf txns m s shelf' txn' view from_one upto short is active tied = by_case
+  where
+    due : refusal_at m s o ≡ refused_by shelf (txn_at txns (s - 1)) o
+    due =
+        let same : s - 1 + 1 ≡ s = omega (arith, from_one) in
+        ap (λ active. if active then object_refused m s o else Some reply.Idle) active
+        ∙ ap (λ t. object_refused m t o) (sym same) ∙ ap (λ n. object_refused n (s - 1 + 1) o) (sym view)
+        ∙ object_refused-viewed shelf txns (s - 1) o (below s from_one upto) tied
 
--- a transaction ends
-pub viewed-end : (places : List Place) (slots : List Slot) (m : Machine) (s : ℕ) (committed : Bool) (stamp : ℕ) → viewed places slots ≡ m → 0 < s → stamp ≡ stamp_of m s
-    → viewed (set places (s - 1) (record { active = false; stamp = stamp; held = [] })) (map (settled s committed stamp) slots) ≡ next m s (Closes committed)
-viewed-end places slots m s committed stamp view from_one is =
-    let ended : Place = record { active = false; stamp = stamp; held = [] } in
-    viewed-with_seat places (map (settled s committed stamp) slots) s ended from_one
-    ∙ ap (λ n. record { slots = map (settled s committed stamp) n.slots; seats = seats_with n.seats s (record { active = false; stamp = stamp }) }) view
-    ∙ ap (λ t. record { slots = map (settled s committed t) m.slots; seats = seats_with m.seats s (record { active = false; stamp = t }) }) is
+    as_was : shelf' ≡ shelf → txn' ≡ txn_at txns (s - 1) → viewed shelf' (set txns (s - 1) txn') ≡ m
+    as_was same_shelf same = ap (λ xs. viewed xs (set txns (s - 1) txn')) same_shelf ∙ ap (viewed shelf) (set-as_was txns (s - 1) txn' same) ∙ view
 
--- an object that the code finds free is one to take
-pub free-to-take : (s : ℕ) (is_full : Bool) (slot : Slot) (found : Option ℕ) → IsFree s is_full slot → found ≡ slot.holder → is_some found ≡ false
-    → (is_full ≡ false) × (slot.holder ≡ None) × ((slot.stamp == LAST_STAMP) ≡ false)
-free-to-take s is_full slot found (inl mine) is none = absurd (false≢true (sym none ∙ ap is_some (is ∙ mine)))
-free-to-take s is_full slot found (inr free) is none = free
+    by_case : IsAnswer c o r shelf (txn_at txns (s - 1)) shelf' txn' → IsStep m s c r (viewed shelf' (set txns (s - 1) txn'))
+    by_case (inl refused) = subst (λ n. IsStep m s c r n) (sym (as_was refused.1 refused.2)) (step-refused m s c o r short is (due ∙ refused.0))
+    by_case (inr (inl memory)) =
+        subst (λ n. IsStep m s c r n) (sym (as_was memory.2 memory.3)) (subst (λ reply. IsStep m s c reply m) (sym memory.1) (step-memory m s c o short is (due ∙ memory.0)))
+    by_case (inr (inr done)) =
+        let within : s - 1 < SESSIONS = below s from_one upto in
+        let seen : slot_at m o ≡ done.1.slot = ap (λ n. slot_at n o) (sym view) ∙ slot_at-viewed shelf txns o ∙ slot_of-seen shelf txns (s - 1) o done.1.slot within tied done.1.seen in
+        let own : (txn_at txns (s - 1)).session ≡ s = tied.numbers (s - 1) within ∙ omega (arith, from_one) in
+        let seat : seat_of txn' ≡ seat_of (txn_at txns (s - 1)) =
+        ap (λ active. record { active = active; stamp = txn'.stamp }) done.1.is_open ∙ ap (λ stamp. record { active = (txn_at txns (s - 1)).is_open; stamp = stamp }) done.1.stamp in
+        let state : viewed shelf' (set txns (s - 1) txn') ≡ with_slot m o (served s c (slot_at m o)) =
+        viewed-served shelf txns (s - 1) shelf' txn' o (served (txn_at txns (s - 1)).session c done.1.slot) within tied done.1.kept seat (there done.1.slot done.1.seen within) done.1.now done.1.others
+        ∙ ap (λ n. with_slot n o (served (txn_at txns (s - 1)).session c done.1.slot)) view
+        ∙ ap (λ t. with_slot m o (served t c done.1.slot)) own
+        ∙ ap (λ slot. with_slot m o (served s c slot)) (sym seen) in
+        subst (λ n. IsStep m s c r n) (sym state)
+        (subst (λ reply. IsStep m s c reply (with_slot m o (served s c (slot_at m o)))) (sym (done.1.reply ∙ ap (λ (slot : Slot). reply_in c slot.working) (sym seen)))
+        (step-served m s c o short is (due ∙ done.0)))
+      where
+        there : (slot : Slot) → seen_by shelf (txn_at txns (s - 1)) o ≡ Some slot → s - 1 < SESSIONS → o < length shelf
+        there slot seen within = elim (seen-some shelf (txn_at txns (s - 1)) o slot seen) [
+          | inl own ↦ slice_get_within shelf o None ((tied.sound (s - 1) within).out o own.0 own.1)
+          | inr home ↦ slice_get_within shelf o (Some home.1.0) home.1.1
+        ]
 
--- and one that it finds held is the session's
-pub held-already : (s : ℕ) (is_full : Bool) (slot : Slot) (found : Option ℕ) → IsFree s is_full slot → found ≡ slot.holder → is_some found ≡ true → slot.holder ≡ Some s
-held-already s is_full slot found (inl mine) is some = mine
-held-already s is_full slot found (inr free) is some = absurd (false≢true (sym (ap is_some (is ∙ free.1)) ∙ some))
-
--- a session's seat stays where its list grows
-seats-same : (places : List Place) (s : ℕ) (place : Place) → 0 < s → seat_of place ≡ seat_of (place_in places s) → map seat_of (set places (s - 1) place) ≡ map seat_of places
-seats-same places zero place from_one same = absurd (omega arith)
-seats-same places (suc i) place from_one same =
-    let at : suc i - 1 ≡ i = omega arith in
-    ap (λ k. map seat_of (set places k place)) at ∙ map-set_same seat_of places i place no_place same
-
--- the holder of an object works on it
-pub viewed-work : (places : List Place) (slots : List Slot) (m : Machine) (s o : ℕ) (c : Command) → viewed places slots ≡ m
-    → viewed places (set slots o (served s c (slot_in slots o))) ≡ with_slot m o (served s c (slot_at m o))
-viewed-work places slots m s o c view = ap (λ n. with_slot n o (served s c (slot_at n o))) view
-
--- a session takes an object, and works on it
-pub viewed-take : (places : List Place) (slots : List Slot) (m : Machine) (s o : ℕ) (c : Command) → viewed places slots ≡ m → 0 < s
-    → viewed (set places (s - 1) (record { active = (place_in places s).active; stamp = (place_in places s).stamp; held = (place_in places s).held ++ o ∷ [] })) (set slots o (served s c (slot_in slots o)))
-    ≡ with_slot m o (served s c (slot_at m o))
-viewed-take places slots m s o c view from_one =
-    ap (λ seats. record { slots = set slots o (served s c (slot_in slots o)); seats = seats })
-    (seats-same places s (record { active = (place_in places s).active; stamp = (place_in places s).stamp; held = (place_in places s).held ++ o ∷ [] }) from_one refl)
-    ∙ viewed-work places slots m s o c view
+-- an end is the machine's
+pub state-ended : (shelf : List (Option Object)) (txns : List Session) (m : Machine) (s : ℕ) (shelf' : List (Option Object)) (txn' : Session) (committed : Bool) → viewed shelf txns ≡ m → 0 < s → s ≤ SESSIONS → IsTied shelf txns
+    → IsEnded committed shelf (txn_at txns (s - 1)) shelf' txn' → viewed shelf' (set txns (s - 1) txn') ≡ next m s (Closes committed)
+state-ended shelf txns m s shelf' txn' committed view from_one upto tied end =
+    viewed-ended shelf txns (s - 1) shelf' txn' committed (below s from_one upto) tied end
+    ∙ ap (λ n. next n (suc (s - 1)) (Closes committed)) view ∙ ap (λ t. next m t (Closes committed)) (number s from_one)

@@ -1,4 +1,4 @@
-pub mod Place
-pub mod Refused
 pub mod Served
+pub mod Session
+pub mod Start
 pub mod Ties

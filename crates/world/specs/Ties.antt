@@ -1,46 +1,46 @@
--- What ties the sessions' lists of held objects to the slots.
-use Rattle.std.specs.Prelude.{◌≡◌, ℕ, zero, suc, ◌<◌, ◌≤◌, ◌^◌, ◌==◌, List, map, Bool, true, false, Option, None, IsSome, [], length, slice_index_or}
-use Rattle.std.specs.List.{list_any}
-use Rattle.eos_ops.specs.declared.limits.TheConstants.{SESSIONS, LAST_STAMP}
-use Rattle.history.specs.Holding.{count_below}
-use Rattle.machine.specs.Machine.{Slot, Machine, no_slot, is_holder}
-use Rattle.world.specs.Place.{Place, no_place, seat_of}
+-- The machine that the shelf and all sessions are, and what ties them to each other.
+use Rattle.std.specs.Prelude.{◌≡◌, ◌≢◌, ℕ, ◌+◌, ◌<◌, List, [], ◌∷◌, map, length, Option, Some, None, IsSome, slice_get, slice_index_or}
+use Rattle.std.specs.List.{range_with_len}
+use Rattle.std.specs.Option.{option_map_or}
+use Rattle.eos_ops.specs.declared.limits.TheConstants.{SESSIONS}
+use Rattle.machine.specs.Machine.{Slot, Seat, Machine, no_slot}
+use Rattle.shadow_txn.specs.Held.{object_in}
+use Rattle.shadow_txn.specs.Transaction.{fresh}
+use Rattle.world.specs.Session.{Object, Session, home_slot, held_slot, IsSound}
 
--- sessions are numbered from 1, and there is nothing at the number of no session
-abbrev pub place_in : List Place → ℕ → Place
-place_in places zero = no_place
-place_in places (suc i) = slice_index_or places i no_place
+-- what stands at a place of no session
+abbrev pub no_txn : Session
+no_txn = fresh 0 0
 
-abbrev pub slot_in : List Slot → ℕ → Slot
-slot_in slots o = slice_index_or slots o no_slot
+-- session i + 1
+abbrev pub txn_at : List Session → ℕ → Session
+txn_at txns i = slice_index_or txns i no_txn
 
-abbrev pub is_among : ℕ → List ℕ → Bool
-is_among o objects = list_any (λ p. p == o) objects
+-- object o in the hands of the first session that holds it
+abbrev pub held_in : List Session → ℕ → Slot
+held_in [] o = no_slot
+held_in (txn ∷ txns) o = option_map_or (held_slot txn.session) (object_in o txn.held) (held_in txns o)
+
+-- object o at its place on the shelf, or else in the hands of a session
+abbrev pub slot_seen : Option (Option Object) → Slot → Slot
+slot_seen None held = no_slot
+slot_seen (Some None) held = held
+slot_seen (Some (Some x)) held = home_slot x
+
+abbrev pub slot_of : List (Option Object) → List Session → ℕ → Slot
+slot_of shelf txns o = slot_seen (slice_get shelf o) (held_in txns o)
+
+abbrev pub seat_of : Session → Seat
+seat_of txn = record { active = txn.is_open; stamp = txn.stamp }
 
 -- the machine that contracts see
-abbrev pub viewed : List Place → List Slot → Machine
-viewed places slots = record { slots = slots; seats = map seat_of places }
+abbrev pub viewed : List (Option Object) → List Session → Machine
+viewed shelf txns = record { slots = map (slot_of shelf txns) (range_with_len 0 (length shelf)); seats = map seat_of txns }
 
--- Each session's list has just the objects below n that it holds, each once.
-pub record Agree (n : ℕ) (held : ℕ → List ℕ) (holder : ℕ → Option ℕ) : Type 0 where
-  pub holds : (s o : ℕ) → is_among o (held s) ≡ is_holder s (holder o)
-  pub count : (s : ℕ) → length (held s) ≡ count_below n (λ o. is_holder s (holder o))
-
--- A session that is open can still end, and one that isn't holds nothing.
-pub record IsGoodPlace (place : Place) : Type 0 where
-  pub last : place.stamp ≤ LAST_STAMP
-  pub open_ended : place.active ≡ true → place.stamp < LAST_STAMP
-  pub idle : place.active ≡ false → place.held ≡ []
-
--- An object that is held can still be let go, and one that isn't has two equal versions.
-pub record IsGoodSlot (slot : Slot) : Type 0 where
-  pub last : slot.stamp ≤ LAST_STAMP
-  pub held : IsSome slot.holder → slot.stamp < LAST_STAMP
-  pub rests : slot.holder ≡ None → slot.working ≡ slot.committed
-
-pub record IsTied (places : List Place) (slots : List Slot) : Type 0 where
-  pub sessions : length places ≡ SESSIONS
-  pub objects : length slots < 2 ^ 32
-  pub agree : Agree (length slots) (λ s. (place_in places s).held) (λ o. (slot_in slots o).holder)
-  pub good_places : (s : ℕ) → IsGoodPlace (place_in places s)
-  pub good_slots : (o : ℕ) → IsGoodSlot (slot_in slots o)
+-- There is one place for each session, and each object is on the shelf or with one session.
+pub record IsTied (shelf : List (Option Object)) (txns : List Session) : Type 0 where
+  pub sessions : length txns ≡ SESSIONS
+  pub numbers : (i : ℕ) → i < SESSIONS → (txn_at txns i).session ≡ i + 1
+  pub sound : (i : ℕ) → i < SESSIONS → IsSound shelf (txn_at txns i)
+  pub alone : (i j o : ℕ) → i ≢ j → IsSome (object_in o (txn_at txns i).held) → object_in o (txn_at txns j).held ≡ None
+  pub taken : (o : ℕ) → slice_get shelf o ≡ Some None → IsSome (held_in txns o).holder

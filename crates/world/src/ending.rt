@@ -1,34 +1,22 @@
 //! The end of a transaction, at the objects that it held. No other object is looked at.
 
-ghost use Rattle.std.specs.Prelude.{◌≡◌, ℕ, ◌<◌, ◌≤◌, true, length, All, if◌then◌else◌};
-ghost use Rattle.machine.specs.Next.{released};
-ghost use Rattle.world.specs.Ties.{slot_in, is_among};
+ghost use Rattle.std.specs.Prelude.{◌≡◌, true};
+ghost use Rattle.world.specs.Served.{IsEnded};
+ghost use Rattle.world.specs.Session.{IsSound};
 
-use crate::slot::Slot;
+use crate::serve::Objects;
+use eos_ops::Blank;
+use shadow_txn::Txn;
 
-/// The greatest last stamp of the objects, 0 where there is none.
-pub fn last_stamp(slots: &[Slot], held: &[u32]) -> u64
-    requires { All (λ o. o < length slots.now) held.now }
-    ensures bound { (o : ℕ) → is_among o held.now ≡ true → (slot_in slots.now o).stamp ≤ result }
-    ensures least { (bound : ℕ)
-        → ((o : ℕ) → is_among o held.now ≡ true → (slot_in slots.now o).stamp ≤ bound)
-        → result ≤ bound }
+/// Ends the transaction by a commit or an abort. It takes no memory.
+pub fn end(txn: &mut Txn<Blank>, objects: &mut Objects, committed: bool)
+    requires open { txn.old.is_open ≡ true }
+    requires sound { IsSound objects.old txn.old }
+    ensures { IsEnded committed objects.old txn.old objects.new txn.new }
 {
-    let mut last = 0;
-    for object in held {
-        last = slots[*object as usize].stamp().max(last);
-    }
-    last
-}
-
-/// Lets the objects go.
-pub fn release_all(slots: &mut [Slot], held: &[u32], committed: bool, stamp: u64)
-    requires { All (λ o. o < length slots.old) held.now }
-    ensures { (o : ℕ) → slot_in slots.new o
-        ≡ (if is_among o held.now then released committed stamp (slot_in slots.old o)
-        else slot_in slots.old o) }
-{
-    for object in held {
-        slots[*object as usize].release(committed, stamp);
+    if committed {
+        let _stamp = txn.commit(objects);
+    } else {
+        let _stamp = txn.abort(objects);
     }
 }

@@ -1,5 +1,5 @@
 -- An order above 14 needs more than half of the largest page.
-use Rattle.std.proofs.Common.{arith, ◌≤◌, ℕ}
+use Rattle.std.proofs.Common.{arith, ◌≤◌}
 use Rattle.page_port.proofs.GeometryLaws.{order-at_most}
 use Rattle.page_port.proofs.geometry.is_order.Goals as goal
 use Rattle.page_port.proofs.geometry.is_order.Goals.{then-order-lt4-via-then-order-lt4, then-order-lt4-via-else-order-lt4+then-order-gt14}

@@ -1,37 +1,63 @@
 -- The last object goes home, and the others wait.
-use Rattle.std.proofs.Common.{◌≡◌, ◌<◌, ◌++◌, ◌∷◌, [], None, Some, All, ◌≤◌, refl, sym, ◌∙◌, subst}
-use Rattle.shadow_txn.specs.Ending.{HasEnded}
-use Rattle.shadow_txn.specs.Held.{AreDistinct}
-use Rattle.shadow_txn.proofs.EndingLemmas.{popped}
-use Rattle.shadow_txn.proofs.HalfwayLemmas.{IsHalfway, halfway-put}
+use Rattle.std.proofs.Common.{◌≡◌, ◌++◌, ◌∷◌, [], sym, ◌∙◌, subst}
+use Rattle.eos_ops.specs.declared.act.Act.{Act}
+use Rattle.eos_ops.specs.declared.end.End.{End}
+use Rattle.std.specs.Prelude.{List}
+use Rattle.std.proofs.lemmas.List.{nil_from_length}
+use Rattle.shadow_txn.specs.Ending.{HasGot, CanEnd, end_with}
+use Rattle.shadow_txn.specs.Held.{AreDistinct, acts_in}
+use Rattle.shadow_txn.proofs.EndingLemmas.{popped, has_ended, one_added, can_wait}
+use Rattle.shadow_txn.proofs.HalfwayLemmas.{IsHalfway, halfway-end, halfway-put, halfway-found, halfway-acts}
 use Rattle.shadow_txn.proofs.HeldLemmas.{AreDistinct-pop, none-All}
 use Rattle.shadow_txn.proofs.end.put_all.Goals as goal
 
 pub puts-preserved : goal.puts-preserved
 puts-preserved g c =
+    let told = g.H.Annals.told in
+    let last = g.H.Annals.last in
     let inv = c.puts.invariant in
     let rest = c.pop.new.self.items in
     let h = c.in-Some.one in
+    let all = c.args.held.now.items in
     let items : c.puts.held.items ≡ rest ++ h ∷ [] = c.in-Some.ensures.items in
+    let end : List Act → End = end_with c.args.closing.stamp c.args.closing.session c.args.closing.number c.args.closing.committed in
+    let before = g.X.Shelf.shelving c.puts.shelf in
+    let after = g.X.Shelf.shelving c.put_one.new.shelf in
     let apart : AreDistinct (rest ++ h ∷ []) = subst AreDistinct items inv.distinct in
     let parted = AreDistinct-pop rest h apart in
-    let ending = c.end_object.ensures in
-    let put = c.put.ensures.put in
-    let end = HasEnded g.H.Annals.told g.H.Annals.last c.args.closing.stamp c.args.closing.session c.args.closing.number c.args.closing.committed in
-    let present = popped (λ k. k.number < (g.X.Shelf.shelving c.puts.shelf).objects) c.puts.held.items rest h items inv.present in
-    let out = popped (λ k. (g.X.Shelf.shelving c.puts.shelf).out k.number ≡ Some None) c.puts.held.items rest h items inv.out in
-    let untold = popped (λ k. g.H.Annals.told k.object.annals ≡ None) c.puts.held.items rest h items inv.untold in
-    let none : g.H.Annals.told c.end_object.new.object.annals ≡ None = rw (ending.ends, untold.1) refl in
+    let each = popped (CanEnd g.H.Annals.tells told last g.H.Annals.spare c.args.closing.stamp before) c.puts.held.items rest h items inv.each in
+    let half = subst (λ hs. IsHalfway (λ o. HasGot told last (end (acts_in o all))) end all hs (g.X.Shelf.shelving c.args.shelf.now) before) items inv.halfway in
+    let home = c.put_one.ensures.home in
+    let found = halfway-found _ end all rest h _ _ half apart in
+    let acts : acts_in h.number all ≡ h.acts = halfway-acts _ end all rest h _ _ half apart in
     record {
-      room = (popped (λ k. 1 ≤ g.H.Annals.spare k.object.annals) c.puts.held.items rest h items inv.room).0;
-      lasts = (popped (λ k. g.H.Annals.last k.object.annals < c.args.closing.stamp) c.puts.held.items rest h items inv.lasts).0;
-      untold = untold.0;
-      present = subst (λ n. All (λ k. k.number < n) rest) (sym put.same.objects) present.0;
-      out = λ k d within. put.others _ (none-All h.number rest parted.1 k d within) ∙ out.0 k d within;
+      each = λ k d within. can_wait _ g.H.Annals.tells told last g.H.Annals.spare c.args.closing.stamp h.number home.home _ before after home.put (none-All h.number rest parted.1 k d within) (each.0 k d within);
+      may = c.put_one.ensures.may;
       distinct = parted.0;
       capacity = c.in-Some.ensures.capacity ∙ inv.capacity;
-      halfway = halfway-put end _ c.args.held.now.items rest h c.end_object.new.object _ _ _
-          (subst (λ hs. IsHalfway end c.args.held.now.items hs (g.X.Shelf.shelving c.args.shelf.now) (g.X.Shelf.shelving c.puts.shelf)) items inv.halfway)
-          apart out.1 put ending;
-      under = λ t frame was. c.put.ensures.under t (inv.under t frame was) (record { framed = sym frame; history = rw none tt });
+      halfway = halfway-put (λ o. HasGot told last (end (acts_in o all))) end _ all rest h home.home _ before after half apart home.put
+          (one_added _ (told h.object.annals) _ (end h.acts) each.1.came home.got.ends)
+          (subst (λ acts. HasGot told last (end acts) h.object home.home) (sym acts) home.got);
+      under = λ t frame legal was. c.put_one.ensures.under t frame (legal h.number h.object found) (inv.under t frame legal was);
     }
+
+pub put_one-requires-clause-terms : goal.put_one-requires-clause-terms
+put_one-requires-clause-terms g c = λ κs below.
+    let rest = c.pop.new.self.items in
+    let h = c.in-Some.one in
+    let all = c.args.held.now.items in
+    let items : c.puts.held.items ≡ rest ++ h ∷ [] = c.in-Some.ensures.items in
+    let end : List Act → End = end_with c.args.closing.stamp c.args.closing.session c.args.closing.number c.args.closing.committed in
+    let apart : AreDistinct (rest ++ h ∷ []) = subst AreDistinct items c.puts.invariant.distinct in
+    let half = subst (λ hs. IsHalfway (λ o. HasGot g.H.Annals.told g.H.Annals.last (end (acts_in o all))) end all hs (g.X.Shelf.shelving c.args.shelf.now) (g.X.Shelf.shelving c.puts.shelf)) items c.puts.invariant.halfway in
+    let terms = c.requires.terms in
+    (terms.0, c.puts.invariant.under terms.0 terms.2 terms.3 terms.1, terms.2, terms.3 h.number h.object (halfway-found _ end all rest h _ _ half apart))
+
+pub returns-clause-shelf : goal.returns-clause-shelf
+returns-clause-shelf g c =
+    let all = c.args.held.now.items in
+    let end : List Act → End = end_with c.args.closing.stamp c.args.closing.session c.args.closing.number c.args.closing.committed in
+    let left : c.puts.held.items ≡ [] = nil_from_length c.puts.held.items (sym c.puts.held.ok.0 ∙ c.in_default.ensures.cases.0) in
+    halfway-end (λ o. HasGot g.H.Annals.told g.H.Annals.last (end (acts_in o all))) _ end all _ _
+    (λ q x y got. has_ended g.H.Annals.told g.H.Annals.last (end (acts_in q all)) x y got)
+    (subst (λ hs. IsHalfway (λ o. HasGot g.H.Annals.told g.H.Annals.last (end (acts_in o all))) end all hs (g.X.Shelf.shelving c.args.shelf.now) (g.X.Shelf.shelving c.puts.shelf)) left c.puts.invariant.halfway)

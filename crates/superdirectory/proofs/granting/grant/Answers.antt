@@ -15,7 +15,7 @@ pub returns-in-Some-clause-trace : goal.returns-in-Some-clause-trace
 returns-in-Some-clause-trace g c =
     let least : c.order_of-order.result ≡ least_order c.args.n = IsOrder-unique c.args.n c.order_of-order.result (least_order c.args.n) c.order_of-order.ensures (least_order-is c.args.n) in
     part_as (IsSearched c.order_of-order.result c.args.start c.spaces-spaces.result false) (IsSearched (least_order c.args.n) 0 (count (g.L.Hints.rest c.args.latches.now)) false) (g.L.Hints.trace c.args.latches.now) (g.L.Hints.trace c.grant_between.new.latches)
-    (λ p h. subst (λ (k : ℕ). IsSearched k 0 (count (g.L.Hints.rest c.args.latches.now)) false p) least (searched_found_from c.order_of-order.result c.args.start c.spaces-spaces.result 0 (count (g.L.Hints.rest c.args.latches.now)) p h)) c.in-Some.ensures.trace
+    (λ p h. subst (λ (k : ℕ). IsSearched k 0 (count (g.L.Hints.rest c.args.latches.now)) false p) least (searched_found_from c.order_of-order.result c.args.start c.spaces-spaces.result 0 (count (g.L.Hints.rest c.args.latches.now)) p (omega arith) (omega (arith, c.spaces-spaces.ensures)) h)) c.in-Some.ensures.trace
 
 pub returns-in-Some-clause-exact : goal.returns-in-Some-clause-exact
 returns-in-Some-clause-exact g c = λ views told same.

@@ -13,7 +13,7 @@ pub returns-in-Some-clause-trace : goal.returns-in-Some-clause-trace
 returns-in-Some-clause-trace g c =
     part_then (IsSearched c.args.order c.args.from c.loop-s.s true) (IsTried c.args.order c.loop-s.s false) (IsSearched c.args.order c.args.from c.args.to false)
     (g.L.Hints.trace c.args.latches.now) (g.L.Hints.trace c.loop-s.latches) (g.L.Hints.trace c.try_space.new.latches)
-    (λ p q a b. searched_found c.args.order c.args.from c.args.to c.loop-s.s p q a b) c.loop-s.invariant.trace c.in-Some.ensures.trace
+    (λ p q a b. searched_found c.args.order c.args.from c.args.to c.loop-s.s p q (omega arith) (omega arith) a b) c.loop-s.invariant.trace c.in-Some.ensures.trace
 
 pub returns-in-Some-clause-exact : goal.returns-in-Some-clause-exact
 returns-in-Some-clause-exact g c = λ views told same.
@@ -30,7 +30,7 @@ loop-s-preserved g c = record {
   rest = record { frame = c.try_space.ensures.rest.frame ∙ c.loop-s.invariant.rest.frame; entered = c.try_space.ensures.rest.entered };
   trace = part_then (IsSearched c.args.order c.args.from c.loop-s.s true) (IsTried c.args.order c.loop-s.s true) (IsSearched c.args.order c.args.from (c.loop-s.s + 1) true)
       (g.L.Hints.trace c.args.latches.now) (g.L.Hints.trace c.loop-s.latches) (g.L.Hints.trace c.try_space.new.latches)
-      (λ p q a b. searched_more c.args.order c.args.from c.loop-s.s (c.loop-s.s + 1) true p q refl a b) c.loop-s.invariant.trace c.in_default.ensures.trace;
+      (λ p q a b. searched_more c.args.order c.args.from c.loop-s.s (c.loop-s.s + 1) true p q refl (omega arith) a b) c.loop-s.invariant.trace c.in_default.ensures.trace;
   told = λ views told same.
       let same' : length views ≡ count (g.L.Hints.rest c.loop-s.latches) = same ∙ ap (λ (f : Frame). length f.firsts) (sym c.loop-s.invariant.rest.frame) in
       (exact_none views c.args.n (spot_in (free_of views) c.args.n (c.loop-s.s ∷ [])) (g.L.Hints.rest c.loop-s.latches).frame (g.L.Hints.rest c.try_space.new.latches) (c.in_default.ensures.exact views (c.loop-s.invariant.told views told same) same')).1;

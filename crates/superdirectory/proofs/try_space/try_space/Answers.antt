@@ -44,4 +44,4 @@ returns-clause-exact g c = λ views told same.
     ap (λ (r : Rest). r.spaces) (c.leave.ensures.rest ∙ ap (λ (r : Rest). leaving r c.args.s c.grant-granted.new.self) c.enter-space.ensures.rest)
     ∙ ap (λ (o : Option (List (Option SpaceView))). option_map (λ spaces. slice_set spaces c.args.s (Some c.grant-granted.new.self)) (option_map (λ spaces. slice_set spaces c.args.s None) o)) looked in
     exact_entered (λ a. (a.space, g.S.Span.start a.span)) (λ a. g.S.Span.contents a.span) g.S.Span.tells c.grant-granted.result c.enter-space.result c.grant-granted.new.self v.0 views c.args.n c.args.s (g.L.Hints.rest c.args.latches.now).frame (g.L.Hints.rest c.leave.new.self)
-    (c.enter-space.ensures.told v.0 (rw c.look-hint.ensures.rest told')) v.1 (rw (← c.look-hint.ensures.rest) c.enter-space.ensures.home) c.grant-granted.ensures.granted c.grant-granted.ensures.refused c.grant-granted.ensures.unchanged left
+    (c.enter-space.ensures.told v.0 (rw c.look-hint.ensures.rest told')) v.1 c.enter-space.ensures.space (rw (← c.look-hint.ensures.rest) c.enter-space.ensures.home) c.grant-granted.ensures.granted c.grant-granted.ensures.refused c.grant-granted.ensures.unchanged left

@@ -1,9 +1,7 @@
 -- The first pair that ends behind the byte has it, and one does, since all of them do.
-use Rattle.std.proofs.Common.{◌≡◌, ℕ, ◌+◌, ◌<◌, ◌≤◌, length, take, ap, arith}
-use Rattle.std.proofs.lemmas.List.{take_all}
+use Rattle.std.proofs.Common.{arith}
 use Rattle.tree_model.specs.declared.entry.Pair.{Pair}
-use Rattle.tree_model.specs.Tree.{bytes_of}
-use Rattle.tree_read.proofs.ChildLemmas.{bytes_of-more, bytes_of-first, in_range-byte}
+use Rattle.tree_read.proofs.ChildLemmas.{bytes_of-more, in_range-byte}
 use Rattle.tree_read.proofs.children.child_at.Goals as goal
 
 abbrev none : Pair

@@ -1,6 +1,5 @@
-use Rattle.std.proofs.Common.{◌≡◌, ◌+◌, ◌≤◌, [], take}
+use Rattle.std.proofs.Common.{◌≡◌, ◌+◌, ◌≤◌, take}
 use Rattle.tree_model.specs.Tree.{bytes_of}
-use Rattle.tree_model.specs.Range.{in_range}
 use Rattle.tree_read.proofs.children.child_at.Given as goal
 
 abbrev pub invariant-loop-pair : goal.invariant-loop-pair

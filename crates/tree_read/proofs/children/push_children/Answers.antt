@@ -1,8 +1,7 @@
 -- Each pair is looked at in the place that those before it give it.
-use Rattle.std.proofs.Common.{◌≡◌, ℕ, ◌+◌, ◌<◌, ◌≤◌, ◌++◌, ◌∷◌, [], List, length, take, sym, ap, ◌∙◌, append_assoc, slice_index_or, arith}
+use Rattle.std.proofs.Common.{ℕ, ◌+◌, ◌++◌, ◌∷◌, [], List, take, sym, ap, ◌∙◌, append_assoc, slice_index_or, arith}
 use Rattle.tree_model.specs.declared.entry.Pair.{Pair}
 use Rattle.tree_model.specs.declared.entry.Placed.{Placed}
-use Rattle.tree_model.specs.Tree.{bytes_of}
 use Rattle.tree_model.specs.Range.{in_range}
 use Rattle.tree_read.proofs.ChildLemmas.{bytes_of-more, bytes_of-first, in_range-more}
 use Rattle.tree_read.proofs.children.push_children.Goals as goal

@@ -1,8 +1,8 @@
 -- Where the device tells, the page is held and holds a node, so no fault is counted then.
-use Rattle.std.proofs.Common.{◌≡◌, ℕ, ◌≤◌, IsTrue, IsErr, Bool, true, false, refl, sym, subst, List, ◌∙◌, arith}
+use Rattle.std.proofs.Common.{◌≡◌, ℕ, IsTrue, IsErr, true, sym, subst, List, arith}
 use Rattle.tree_model.specs.Node.{HoldsNode}
 use Rattle.tree_read.proofs.HeldLemmas.{held-HoldsNode}
-use Rattle.tree_read.proofs.MeterLemmas.{Reads-after_read, Reads-blame, Reads-none, Reads-then, HasCause-after}
+use Rattle.tree_read.proofs.MeterLemmas.{Reads-blame, Reads-none, Reads-then, HasCause-after}
 use Rattle.tree_read.proofs.load.fetch.Goals as goal
 
 pub returns-then-not-has_page-clause-reads : goal.returns-then-not-has_page-clause-reads
@@ -14,8 +14,7 @@ returns-then-not-has_page-clause-reads g c =
 pub returns-then-not-has_page-clause-cause : goal.returns-then-not-has_page-clause-cause
 returns-then-not-has_page-clause-cause g c =
     let untold : IsTrue g.P.S.Span.tells → ⊥ = λ t.
-    let yes = held-HoldsNode (g.H.Held.has c.args.held.now c.args.page) (g.H.Held.bytes_on c.args.held.now c.args.page)
-    (g.H.Held.nothing c.args.held.now c.args.page) (c.requires.told t) in
+    let yes = held-HoldsNode c.args.held.now c.args.page (c.requires.told t) in
     absurd (cc (yes, c.has_page.ensures, c.if-not-has_page.true)) in
     record { kept = c.blame.ensures.kept; raised = λ _. c.blame.ensures.faults untold }
 
@@ -24,7 +23,7 @@ returns-clause-reads g c =
     let old = g.P.Port.meter c.args.port.now in
     let mid = g.P.Port.meter c.read_page.new.port in
     let new = g.P.Port.meter c.blame-2.new.self in
-    Reads-then 1 0 1 old mid new (Reads-after_read 1 1 _ old mid c.read_page.ensures.counts (omega arith) c.read_page.ensures.cause.kept)
+    Reads-then 1 0 1 old mid new c.read_page.ensures.reads
     (Reads-blame new.faults mid new c.blame-2.ensures.counts c.blame-2.ensures.kept) (omega arith)
 
 pub returns-clause-cause : goal.returns-clause-cause

@@ -1,19 +1,22 @@
 -- What is under a level's nodes stays what the range meets of all entries, down to the entries.
-use Rattle.std.proofs.Common.{◌≡◌, ℕ, suc, ◌+◌, ◌-◌, ◌/◌, ◌<◌, ◌≤◌, IsTrue, List, length, sym, ap, subst, ◌∙◌, arith}
+use Rattle.std.proofs.Common.{◌≡◌, ℕ, suc, ◌-◌, ◌*◌, ◌/◌, IsTrue, List, length, sym, ap, subst, ◌∙◌, arith}
 use Rattle.std.specs.List.{AllByRecursion}
 use Rattle.tree_model.specs.declared.entry.Placed.{Placed}
 use Rattle.tree_model.specs.Node.{room_of}
-use Rattle.tree_read.specs.Cost.{below, nodes_in_range}
+use Rattle.tree_read.specs.Cost.{AreKept, below, nodes_in_range}
 use Rattle.tree_read.specs.Scratch.{IsPrepared}
-use Rattle.tree_read.specs.Search.{IsNamed, KeepsNodes, Uses, top as top_of}
+use Rattle.tree_read.specs.Search.{IsNamed, KeepsNodes, top as top_of}
 use Rattle.tree_read.proofs.LevelLemmas.{IsLevel, IsLevel-top, IsLevel-below, IsLevel-named, IsLevel-entries, length-nodes-next}
+use Rattle.tree_read.proofs.CacheLemmas.{AreKept-below, AreKept-level, AreKept-same, CostsNothing-none, CostsNothing-then, length-nodes-found}
+use Rattle.tree_read.proofs.TreeLemmas.{found}
 use Rattle.tree_read.proofs.MeterLemmas.{Uses-none, Uses-then}
+use Rattle.span_store.specs.Held.{bytes_on}
 use Rattle.tree_read.proofs.range.entries.Goals as goal
 
 pub loop-level-init : goal.loop-level-init
 loop-level-init g c =
     let root = c.args.root.now in
-    let at = g.H.Held.bytes_on c.args.held.now in
+    let at = bytes_on c.args.held.now in
     let m = g.P.Port.meter c.args.port.now in
     let items : c.in_ok-segments.segments.items ≡ top_of root c.args.from c.args.to = c.in_ok-segments.ensures.top in
     record {
@@ -26,12 +29,13 @@ loop-level-init g c =
       few = λ t.
           let same = ap (λ (ss : List Placed). length (nodes_in_range at c.args.from c.args.to root.height ss)) items in
           omega arith;
+      cached = λ t held. (CostsNothing-none c.args.cache.now m, subst (λ (ss : List Placed). AreKept c.args.cache.now (nodes_in_range at c.args.from c.args.to root.height ss)) (sym items) held);
     }
 
 pub level_below-requires-clause-told : goal.level_below-requires-clause-told
 level_below-requires-clause-told g c = λ _ _ t.
     let root = c.args.root.now in
-    let at = g.H.Held.bytes_on c.args.held.now in
+    let at = bytes_on c.args.held.now in
     let level = c.loop-level.level in
     let e : level ≡ suc (level - 1) = omega arith in
     subst (AllByRecursion (IsNamed at level)) (sym c.as_slice.ensures.value)
@@ -39,7 +43,7 @@ level_below-requires-clause-told g c = λ _ _ t.
 
 pub returns-in_err-segments-2-clause-few : goal.returns-in_err-segments-2-clause-few
 returns-in_err-segments-2-clause-few g c = λ t.
-    let at = g.H.Held.bytes_on c.args.held.now in
+    let at = bytes_on c.args.held.now in
     let level = c.loop-level.level in
     let e : level ≡ suc (level - 1) = omega arith in
     let nodes = length-nodes-next at c.args.from c.args.to level (level - 1) c.loop-level.segments.items e in
@@ -51,7 +55,7 @@ returns-in_err-segments-2-clause-few g c = λ t.
 pub loop-level-preserved : goal.loop-level-preserved
 loop-level-preserved g c =
     let root = c.args.root.now in
-    let at = g.H.Held.bytes_on c.args.held.now in
+    let at = bytes_on c.args.held.now in
     let from = c.args.from in
     let to = c.args.to in
     let level = c.loop-level.level in
@@ -64,7 +68,7 @@ loop-level-preserved g c =
     let page : m1.page ≡ m0.page = c.loop-level.invariant.uses.page in
     let items = λ (t : IsTrue g.P.S.Span.tells). c.in_ok-segments-2.ensures.told t ∙ ap (below at from to) c.as_slice.ensures.value in
     record {
-      kept = subst (λ (n : ℕ). KeepsNodes g.P.S.Span.tells n (g.H.Held.bytes_on c.args.held.now) c.level_below.new.cache) page c.level_below.ensures.kept;
+      kept = subst (λ (n : ℕ). KeepsNodes g.P.S.Span.tells n (bytes_on c.args.held.now) c.level_below.new.cache) page c.level_below.ensures.kept;
       prepared = subst (λ (n : ℕ). IsPrepared n c.level_below.new.scratch) page c.level_below.ensures.prepared;
       uses = Uses-then (length c.as_slice.result.now) m0 m1 m2 c.loop-level.invariant.uses c.level_below.ensures.reads;
       fits = c.in_ok-segments-2.ensures.fits;
@@ -77,10 +81,42 @@ loop-level-preserved g c =
           let before = c.loop-level.invariant.few t in
           let next = ap (λ (ss : List Placed). length (nodes_in_range at from to (level - 1) ss)) (items t) in
           omega (arith, nodes, same, read, before, next);
+      cached = λ t held.
+          let so_far = c.loop-level.invariant.cached t held in
+          let here = AreKept-same c.args.cache.now c.loop-level.cache old so_far.0.same (AreKept-level c.args.cache.now at from to level (level - 1) old e so_far.1) in
+          let slice : AreKept c.loop-level.cache c.as_slice.result.now = subst (AreKept c.loop-level.cache) (sym c.as_slice.ensures.value) here in (
+            CostsNothing-then c.args.cache.now c.loop-level.cache c.level_below.new.cache m0 m1 m2 so_far.0 (c.level_below.ensures.cached slice),
+            subst (λ (ss : List Placed). AreKept c.args.cache.now (nodes_in_range at from to (level - 1) ss)) (sym (items t)) (AreKept-below c.args.cache.now at from to level (level - 1) old e so_far.1),
+          );
     }
 
 pub returns-clause-told : goal.returns-clause-told
 returns-clause-told g c = λ t.
     let root = c.args.root.now in
-    IsLevel-entries (g.H.Held.bytes_on c.args.held.now) c.args.from c.args.to root.height root.page c.loop-level.level c.loop-level.segments.items
+    IsLevel-entries (bytes_on c.args.held.now) c.args.from c.args.to root.height root.page c.loop-level.level c.loop-level.segments.items
     (omega arith) (c.loop-level.invariant.told t)
+
+pub returns-in_err-segments-2-clause-cached : goal.returns-in_err-segments-2-clause-cached
+returns-in_err-segments-2-clause-cached g c = λ t held.
+    let at = bytes_on c.args.held.now in
+    let level = c.loop-level.level in
+    let e : level ≡ suc (level - 1) = omega arith in
+    let so_far = c.loop-level.invariant.cached t held in
+    let here = AreKept-same c.args.cache.now c.loop-level.cache c.loop-level.segments.items so_far.0.same (AreKept-level c.args.cache.now at c.args.from c.args.to level (level - 1) c.loop-level.segments.items e so_far.1) in
+    (c.level_below.ensures.cached (subst (AreKept c.loop-level.cache) (sym c.as_slice.ensures.value) here)).read ∙ so_far.0.read
+
+pub returns-clause-cached : goal.returns-clause-cached
+returns-clause-cached g c = λ t held. (c.loop-level.invariant.cached t held).0.read
+
+pub returns-clause-level : goal.returns-clause-level
+returns-clause-level g c = λ t.
+    let root = c.args.root.now in
+    let at = bytes_on c.args.held.now in
+    let m = g.P.Port.meter c.args.port.now in
+    let first = IsLevel-top at (room_of m.page / 2) c.args.from c.args.to root.height root.page root.length (c.requires.told t) c.requires.order c.requires.inside in
+    let last = IsLevel-entries at c.args.from c.args.to root.height root.page c.loop-level.level c.loop-level.segments.items (omega arith) (c.loop-level.invariant.told t) in
+    let nodes = length-nodes-found at c.args.from c.args.to root.height (top_of root c.args.from c.args.to) first.each first.trees in
+    let count : length (found at root.height c.args.from c.args.to (top_of root c.args.from c.args.to)) ≡ length c.loop-level.segments.items = ap length (first.all ∙ sym last) in
+    let times = ap (λ (n : ℕ). root.height * n) count in
+    let few = c.loop-level.invariant.few t in
+    omega (arith, nodes, times, few)

@@ -1,9 +1,7 @@
 -- The row of a page behind the catalog gives its space, and the place in the row its place there.
-use Rattle.std.proofs.Common.{◌≡◌, ℕ, ◌+◌, ◌-◌, ◌*◌, ◌/◌, ◌%◌, ◌<◌, ◌≤◌, Some, None, arith, ap, sym, ◌∙◌, subst}
-use Rattle.geometry_model.specs.Numbers.{Numbers, IsInRange, space_pages, pages}
-use Rattle.geometry_model.specs.Pages.{place, IsPlace}
-use Rattle.geometry_model.proofs.NumberLaws.{space_pages-high}
-use Rattle.geometry_model.proofs.PageLaws.{place-past, place-none, IsPlace-from_place}
+use Rattle.std.proofs.Common.{◌≡◌, ℕ, ◌+◌, ◌-◌, ◌/◌, ◌%◌, ◌<◌, Some, arith, ap, sym, ◌∙◌, subst}
+use Rattle.geometry_model.specs.Numbers.{Numbers, space_pages}
+use Rattle.geometry_model.proofs.PageLaws.{place-past, place-none}
 use Rattle.page_port.proofs.GeometryLaws.{place-head, place-behind, place-before}
 use Rattle.page_port.proofs.geometry.Geometry.place.Goals as goal
 use Rattle.page_port.proofs.geometry.Geometry.place.Goals.{then-page-self-via-then-page-self, then-page-self-via-else-page-self+then-page-pages}

@@ -1,11 +1,16 @@
-use Rattle.std.proofs.Common.{◌≡◌, ℕ, ◌++◌, ◌∷◌, [], length, ap, sym, ◌∙◌, true, None, subst, arith}
+use Rattle.std.proofs.Common.{◌≡◌, ℕ, ◌++◌, ◌∷◌, [], length, ap, sym, ◌∙◌, None, subst, arith, List, slice_index_or}
+use Rattle.eos_ops.specs.declared.act.Act.{Act}
+use Rattle.eos_ops.specs.declared.plain.Plain.TheVariants.{Absent}
+use Rattle.shadow_txn.specs.Acts.{IsLed}
+use Rattle.shadow_txn.specs.Objects.{IsLegalObject}
+use Rattle.shadow_txn.proofs.ActLemmas.{led-new}
 use Rattle.shadow_txn.specs.declared.held.Held.{Held}
 use Rattle.shadow_txn.specs.declared.plain_object.PlainObject.{PlainObject}
-use Rattle.shadow_txn.specs.Serving.{Serves}
-use Rattle.shadow_txn.specs.Transaction.{holding}
+use Rattle.shadow_txn.specs.Serving.{Serves, Agree}
+use Rattle.shadow_txn.specs.Transaction.{Transaction, holding}
 use Rattle.shadow_txn.specs.Held.{object_in}
 use Rattle.shadow_txn.specs.Taking.{IsTaken}
-use Rattle.shadow_txn.proofs.ServingLemmas.{sound-push, serves-push, none_of}
+use Rattle.shadow_txn.proofs.ServingLemmas.{sound-push, serves-push, agree-push, none_of}
 use Rattle.shadow_txn.proofs.txn.Txn.hold.Goals as goal
 
 -- the object wasn't held
@@ -20,12 +25,13 @@ taken g c = subst (λ n. IsTaken g.H.Annals.told g.H.Annals.last g.H.Annals.spar
 -- the transaction holds it behind the others
 whole : (g : _) (c : goal.After-push_reserved g)
     → record { session = c.self.inside.session; objects = c.self.inside.objects; is_open = c.self.inside.active; number = c.self.inside.number; stamp = c.self.inside.stamp; held = c.push_reserved.new.self.items }
-    ≡ holding c.args.self.now (c.args.self.now.held ++ record { number = c.args.o; object = c.in_ok-object.object } ∷ [])
+    ≡ holding c.args.self.now (c.args.self.now.held ++ record { number = c.args.o; object = c.in_ok-object.object; acts = [] } ∷ [])
 whole g c =
-    let one : ℕ → Held (PlainObject g.row.H.Denot) = λ n. record { number = n; object = c.in_ok-object.object } in
+    let one : ℕ → List Act → Held (PlainObject g.row.H.Denot) = λ n acts. record { number = n; object = c.in_ok-object.object; acts = acts } in
     rw c.push_reserved.ensures.items
-    (ap (λ t. holding t (t.held ++ one c.in_ok-number.number ∷ [])) c.self.view_is
-    ∙ ap (λ n. holding c.args.self.now (c.args.self.now.held ++ one n ∷ [])) c.in_ok-number.ensures.ok.0)
+    (ap (λ t. holding t (t.held ++ one c.in_ok-number.number c.new.result ∷ [])) c.self.view_is
+    ∙ ap (λ n. holding c.args.self.now (c.args.self.now.held ++ one n c.new.result ∷ [])) c.in_ok-number.ensures.ok.0
+    ∙ ap (λ acts. holding c.args.self.now (c.args.self.now.held ++ one c.args.o acts ∷ [])) c.new.ensures)
 
 pub invariant_of-self : goal.invariant_of-self
 invariant_of-self g c =
@@ -36,8 +42,16 @@ invariant_of-self g c =
     let count = ap (λ t. length t.held) c.self.view_is in
     let free = ap (λ t. object_in c.in_ok-number.number t.held) c.self.view_is ∙ ap (λ n. object_in n c.args.self.now.held) number.0 ∙ away g c in
     rw (c.push_reserved.ensures.items, c.push_reserved.ensures.capacity)
-    (sound-push (λ x. g.H.Annals.spare x.annals) (λ x. g.H.Annals.last x.annals) _ _ (record { number = c.in_ok-number.number; object = c.in_ok-object.object })
-    c.self.invariant open_now free (omega (arith, objects, number.0, number.1)) (omega (arith, count, number.2)) object.room object.left)
+    (sound-push (λ x. g.H.Annals.spare x.annals) (λ x. g.H.Annals.last x.annals) (IsLed g.H.Annals.tells g.H.Annals.told g.H.Annals.last) _ _
+    (record { number = c.in_ok-number.number; object = c.in_ok-object.object; acts = c.new.result })
+    c.self.invariant open_now free (omega (arith, objects, number.0, number.1)) (omega (arith, count, number.2)) object.room object.left
+    (rw c.new.ensures (led-new g.H.Annals.tells g.H.Annals.told g.H.Annals.last c.in_ok-object.object object.rests object.ages)))
+
+pub returns-clause-agree : goal.returns-clause-agree
+returns-clause-agree g c = λ t under agree.
+    let legal = subst (λ n. IsLegalObject g.H.Annals.told (slice_index_or t.opened n Absent) c.in_ok-object.object) c.in_ok-number.ensures.ok.0 (c.in_ok-object.ensures.legal t under) in
+    subst (λ (x : Transaction (PlainObject g.row.H.Denot)). Agree g.H.Annals.tells g.H.Annals.told t x.held) (sym (whole g c))
+    (agree-push g.H.Annals.tells g.H.Annals.told t (record { number = c.args.o; object = c.in_ok-object.object; acts = [] }) c.args.self.now.held legal agree)
 
 pub returns-clause-ok : goal.returns-clause-ok
 returns-clause-ok g c = λ none. record { object = c.in_ok-object.object; taken = taken g c; held = whole g c }

@@ -1,14 +1,17 @@
 -- The object at its place leaves, and is put back as it came.
-use Rattle.std.proofs.Common.{◌≡◌, ◌≤◌, ◌<◌, ◌^◌, [], None, Some, ap, refl, sym, ◌∙◌, subst}
-use Rattle.std.specs.Prelude.{IsSomeAnd, remove}
-use Rattle.object_locks.specs.Shelving.{IsPut}
+use Rattle.std.proofs.Common.{◌≡◌, [], None, Some, ap, sym, ◌∙◌, subst, slice_index_or}
+use Rattle.std.specs.Prelude.{IsSomeAnd}
+use Rattle.object_locks.specs.Shelving.{Terms, Suits, IsPut}
+use Rattle.eos_ops.specs.declared.plain.Plain.TheVariants.{Absent}
+use Rattle.shadow_txn.specs.Acts.{IsLed}
+use Rattle.shadow_txn.specs.Objects.{IsLegalObject}
 use Rattle.shadow_txn.specs.declared.plain_object.PlainObject.{PlainObject}
 use Rattle.shadow_txn.specs.Held.{object_in, without, IsPlace, AreDistinct}
-use Rattle.shadow_txn.specs.Serving.{Serves}
-use Rattle.shadow_txn.specs.Transaction.{Transaction, holding, IsSound}
-use Rattle.shadow_txn.proofs.EndingLemmas.{unknown}
+use Rattle.shadow_txn.specs.Serving.{Serves, Agree}
+use Rattle.shadow_txn.specs.Transaction.{Transaction, holding}
+use Rattle.shadow_txn.proofs.ServingLemmas.{agreed}
 use Rattle.shadow_txn.proofs.HeldLemmas.{at_place, object_in-at, without-at}
-use Rattle.shadow_txn.proofs.LettingGoLemmas.{sound-without, serves-without}
+use Rattle.shadow_txn.proofs.LettingGoLemmas.{sound-without, serves-without, agree-without, may_return}
 use Rattle.shadow_txn.proofs.txn.Txn.unhold.Goals as goal
 
 -- o stands at the place
@@ -23,9 +26,18 @@ at g c =
     sym (ap (λ (t : Transaction (PlainObject g.row.H.Denot)). object_in c.args.o t.held) c.self.view_is)
     ∙ object_in-at c.self.inside.held.items c.args.o c.in-Some.i c.remove-number.result (place g c) c.remove-number.ensures.value
 
--- at rest, and with annals that tell nothing
-plain : (g : _) (c : goal.After-put-arg-1 g) → (c.remove-number.result.object.working ≡ None) × (g.H.Annals.told c.remove-number.result.object.annals ≡ None)
-plain g c = subst (λ r. IsSomeAnd r (λ (x : PlainObject g.row.H.Denot). (x.working ≡ None) × (g.H.Annals.told x.annals ≡ None))) (at g c) c.requires.held
+rests : (g : _) (c : goal.After-put-arg-1 g) → c.remove-number.result.object.working ≡ None
+rests g c = subst (λ r. IsSomeAnd r (λ (x : PlainObject g.row.H.Denot). x.working ≡ None)) (at g c) c.requires.held
+
+-- what the terms ask of it
+legal : (g : _) (c : goal.After-put-arg-1 g) (t : Terms) → Agree g.H.Annals.tells g.H.Annals.told t c.args.self.now.held
+    → Suits {T = PlainObject g.row.H.Denot} (λ _. []) (IsLegalObject g.H.Annals.told) t c.remove-number.result.number c.remove-number.result.object
+legal g c t agree =
+    let fits = agreed g.H.Annals.tells g.H.Annals.told t c.args.self.now.held (g.met.H.Annals g.world.𝓛 g.world.𝓜 g.world.𝓡 ((λ s x. x), (λ x. x), (λ x. x), λ x. x)).tells_all agree in
+    record {
+      framed = sym fits.0;
+      history = subst (λ n. IsLegalObject g.H.Annals.told (slice_index_or t.opened n Absent) c.remove-number.result.object) (sym (number g c)) (fits.1 c.args.o c.remove-number.result.object (at g c));
+    }
 
 left : (g : _) (c : goal.After-put-arg-1 g) → c.remove-number.new.self.items ≡ without c.args.o c.self.inside.held.items
 left g c =
@@ -35,21 +47,18 @@ left g c =
 pub put-requires-clause-out : goal.put-requires-clause-out
 put-requires-clause-out g c =
     let x = c.remove-number.result.object in
-    let out = unknown g.H.Annals.told x ((g.X.Shelf.shelving c.args.shelf.now).out c.args.o) (plain g c).1 (c.requires.serves.came c.args.o x (at g c)) in
-    rw (number g c, out) tt
+    rw (number g c) (may_return _ (g.H.Annals.told x.annals) (g.X.Shelf.shelving c.args.shelf.now) (c.requires.serves.came c.args.o x (at g c)))
 
 pub put-requires-clause-rests : goal.put-requires-clause-rests
-put-requires-clause-rests g c = (plain g c).0
+put-requires-clause-rests g c = rests g c
 
 pub put-requires-clause-terms : goal.put-requires-clause-terms
-put-requires-clause-terms g c =
-    let terms = c.requires.terms in
-    (terms.0, terms.1, record { framed = sym terms.2; history = rw (plain g c).1 tt })
+put-requires-clause-terms g c = let terms = c.requires.terms in (terms.0, terms.1, legal g c terms.0 terms.2)
 
 pub invariant_of-self : goal.invariant_of-self
 invariant_of-self g c =
     rw (left g c.before, c.remove-number.ensures.capacity)
-    (sound-without (λ x. g.H.Annals.spare x.annals) (λ x. g.H.Annals.last x.annals) _ _ c.args.o c.self.invariant)
+    (sound-without (λ x. g.H.Annals.spare x.annals) (λ x. g.H.Annals.last x.annals) (IsLed g.H.Annals.tells g.H.Annals.told g.H.Annals.last) _ _ c.args.o c.self.invariant)
 
 pub returns-clause-txn : goal.returns-clause-txn
 returns-clause-txn g c =
@@ -68,7 +77,14 @@ returns-clause-serves g c =
     rw (left g c.before)
     (subst (λ t. Serves g.H.Annals.told g.H.Annals.last t (g.X.Shelf.shelving c.put.new.self))
     (sym (ap (λ (t : Transaction (PlainObject g.row.H.Denot)). holding t (without c.args.o t.held)) c.self.view_is))
-    (serves-without g.H.Annals.told g.H.Annals.last c.args.self.now c.args.o x _ _ c.requires.serves (at g c.before) (plain g c.before).1 apart put))
+    (serves-without g.H.Annals.told g.H.Annals.last c.args.self.now c.args.o x _ _ c.requires.serves (at g c.before) apart put))
 
 pub returns-clause-under : goal.returns-clause-under
-returns-clause-under g c = λ t frame was. c.put.ensures.under t was (record { framed = sym frame; history = rw (plain g c.before).1 tt })
+returns-clause-under g c = λ t agree was. c.put.ensures.under t was (legal g c.before t agree)
+
+pub returns-clause-agree : goal.returns-clause-agree
+returns-clause-agree g c = λ t agree.
+    let apart : AreDistinct c.args.self.now.held = subst (λ (t : Transaction (PlainObject g.row.H.Denot)). AreDistinct t.held) c.self.view_is c.self.invariant.distinct in
+    rw (left g c.before)
+    (subst (λ (x : Transaction (PlainObject g.row.H.Denot)). Agree g.H.Annals.tells g.H.Annals.told t (without c.args.o x.held)) (sym c.self.view_is)
+    (agree-without g.H.Annals.tells g.H.Annals.told t c.args.o c.args.self.now.held apart agree))

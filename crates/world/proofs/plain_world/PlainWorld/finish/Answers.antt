@@ -21,5 +21,5 @@ loop-place-preserved c = record {
 }
 
 pub returns-clause-rest : goal.returns-clause-rest
-returns-clause-rest c = rests-from c.self.inside.places.items c.self.inside.slots.items c.loop-place.self c.self.view_is c.self.invariant
+returns-clause-rest c = rests-from c.self.inside.objects c.self.inside.sessions.items c.loop-place.self c.self.view_is c.self.invariant
     (λ s upto. c.loop-place.invariant.idle s (omega arith))

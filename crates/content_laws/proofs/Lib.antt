@@ -1,0 +1,4 @@
+pub mod PageCountLemmas
+pub mod SideLemmas
+pub mod PlanLemmas
+pub mod SpellingLemmas

@@ -1,0 +1,9 @@
+use Rattle.moment_laws.proofs.ends.an_end_keeps_soundness.Goals as goal
+use Rattle.moment_laws.proofs.EndLemmas.{sound-settled, sound-undone}
+use Rattle.history.specs.Holding.{holds}
+
+pub returns-clause-committed : goal.returns-clause-committed
+returns-clause-committed c = λ n held session past moment. sound-settled n held (λ o. holds session o past) moment
+
+pub returns-clause-aborted : goal.returns-clause-aborted
+returns-clause-aborted c = λ n held session past moment. sound-undone n held (λ o. holds session o past) moment

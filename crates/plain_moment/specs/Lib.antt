@@ -1,0 +1,4 @@
+pub mod Effects
+pub mod Testing
+pub mod Holders
+pub mod Stored

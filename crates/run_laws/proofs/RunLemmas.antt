@@ -1,0 +1,312 @@
+-- Each answered line keeps a moment sound, where what is held is what the lines say.
+use Rattle.std.proofs.Common.{◌≡◌, ℕ, zero, suc, ◌≤◌, Bool, true, false, ◌&&◌, not, Some, List, [], ◌∷◌, refl, sym, ap, subst, arith, ◌∙◌, inl, inr}
+use Rattle.std.specs.Prelude.{if◌then◌else◌, ◌==◌}
+use Rattle.std.proofs.lemmas.Bool.{cases_Bool, cases_eq, false≢true, eq-eqb, ne_eqb, or_cases, or_left, or_right, and_parts, and_from, not-true}
+use Rattle.geometry_model.specs.Numbers.{Numbers, IsInRange}
+use Rattle.eos_ops.specs.declared.act.Act.{Act}
+use Rattle.eos_ops.specs.declared.command.Command.{Command}
+use Rattle.eos_ops.specs.declared.command.Command.TheVariants.{Begin, Create, Destroy, Length, Read, Append, Insert, Delete, Replace, Commit, Abort, Status}
+use Rattle.eos_ops.specs.declared.edit.Edit.{Edit}
+use Rattle.eos_ops.specs.declared.edit.Edit.TheVariants as edit
+use Rattle.eos_ops.specs.declared.reply.Reply.{Reply}
+use Rattle.eos_ops.specs.declared.reply.Reply.TheVariants as reply
+use Rattle.eos_ops.specs.Payloads.{payload_bytes}
+use Rattle.eos_ops.specs.Objects.{object_of, edit_of, with_bytes}
+use Rattle.history.specs.Event.{Event, Deed, answered, bounded, deed, deed_of, is_done}
+use Rattle.history.specs.Event.Deed.{Opens, Does, Takes, Closes, Nothing}
+use Rattle.history.specs.Holding.{holds, holds_after, some_upto}
+use Rattle.history.specs.Transactions.{is_open}
+use Rattle.history.proofs.EventLaws.{holds-own, holds-other}
+use Rattle.layout_model.specs.Grants.{Answer}
+use Rattle.layout_model.specs.Grants.Answer.{Got, Refused}
+use Rattle.moment_model.specs.Moment.{Slot, Moment, nothing, slot_at, with_slot, IsSound}
+use Rattle.moment_model.specs.Edit.{settled, undone}
+use Rattle.moment_model.specs.Run.{start_of, committed_by, aborted_by, changed_where, answer_to, slot_of, IsGot, after_ok, is_ok_reply, moment_after, OkToEdit, Agrees, moment_of, AllAgree, all_aborted, Run}
+use Rattle.moment_laws.specs.Change.{held_without}
+use Rattle.moment_laws.proofs.EndLemmas.{changed-cases, sound-settled, sound-undone, sound-held_more, sound-all_aborted}
+use Rattle.edit_laws.specs.Laying.{AsksThreshold}
+use Rattle.edit_laws.specs.Tail.{IsTail, HaveTails}
+use Rattle.edit_laws.proofs.EditLemmas.{edited-sound}
+use Rattle.run_laws.specs.InOrder.{is_held, IsInOrder, AllInOrder}
+
+-- ---- some number up to n
+
+some-at : (n : ℕ) (p : ℕ → Bool) (k : ℕ) → 1 ≤ k → k ≤ n → p k ≡ true → some_upto n p ≡ true
+some-at zero p k low high holds_it = absurd (omega (arith, low, high))
+some-at (suc n) p k low high holds_it =
+    elim (cases_eq k (suc n)) [
+      | inl same ↦ or_left (p (suc n)) (some_upto n p) (subst (λ (j : ℕ). p j ≡ true) same holds_it)
+      | inr other ↦ or_right (p (suc n)) (some_upto n p) (some-at n p k low (omega (arith, high, other)) holds_it)
+    ]
+
+some-is : (n : ℕ) (p : ℕ → Bool) → some_upto n p ≡ true → (k : ℕ) × (1 ≤ k) × (k ≤ n) × (p k ≡ true)
+some-is zero p none = absurd (false≢true none)
+some-is (suc n) p some =
+    elim (or_cases (p (suc n)) (some_upto n p) some) [
+      | inl here ↦ (suc n, omega arith, omega arith, here)
+      | inr below ↦ let more = some-is n p below in let high = more.2 in (more.0, more.1, omega (arith, high), more.3)
+    ]
+
+-- ---- who holds what
+
+-- a deed that doesn't close lets nothing go
+abbrev IsOpenEnded : Deed → Type 0
+IsOpenEnded Opens = Unit {0}
+IsOpenEnded (Does o act) = Unit {0}
+IsOpenEnded (Takes o) = Unit {0}
+IsOpenEnded (Closes committed) = ⊥
+IsOpenEnded Nothing = Unit {0}
+
+stays-held : (d : Deed) (o : ℕ) (active held : Bool) → IsOpenEnded d → held ≡ true → holds_after d o active held ≡ true
+stays-held Opens o active held is holds_it = holds_it
+stays-held (Does p act) o active held is holds_it = or_right ((p == o) && active) held holds_it
+stays-held (Takes p) o active held is holds_it = or_right ((p == o) && active) held holds_it
+stays-held (Closes committed) o active held is holds_it = absurd is
+stays-held Nothing o active held is holds_it = holds_it
+
+holds-stays : (s o : ℕ) (e : Event) (past : List Event) → IsOpenEnded (deed_of e) → holds s o past ≡ true → holds s o (e ∷ past) ≡ true
+holds-stays s o e past is holds_it =
+    elim (cases_Bool (e.session == s)) [
+      | inl own ↦ holds-own s o e past own ∙ stays-held (deed_of e) o (is_open s past) (holds s o past) is holds_it
+      | inr other ↦ holds-other s o e past other ∙ holds_it
+    ]
+
+is_held-stays : (sessions : ℕ) (e : Event) (past : List Event) → IsOpenEnded (deed_of e) → (o : ℕ) → is_held sessions past o ≡ true → is_held sessions (e ∷ past) o ≡ true
+is_held-stays sessions e past is o held =
+    let by = some-is sessions (λ s. holds s o past) held in
+    some-at sessions (λ s. holds s o (e ∷ past)) by.0 by.1 by.2 (holds-stays by.0 o e past is by.3)
+
+-- what others hold stays held when a session ends its transaction
+is_held-others : (sessions : ℕ) (e : Event) (past : List Event) (o : ℕ) → held_without (is_held sessions past) (λ q. holds e.session q past) o ≡ true → is_held sessions (e ∷ past) o ≡ true
+is_held-others sessions e past o still =
+    let parts = and_parts (is_held sessions past o) (not (holds e.session o past)) still in
+    let by = some-is sessions (λ s. holds s o past) parts.0 in
+    let other : (e.session == by.0) ≡ false = ne_eqb e.session by.0 (λ same.
+    let own : holds e.session o past ≡ true = subst (λ (s : ℕ). holds s o past ≡ true) (sym same) by.3 in
+    false≢true (sym (not-true (holds e.session o past) parts.1) ∙ own)) in
+    some-at sessions (λ s. holds s o (e ∷ past)) by.0 by.1 by.2 (holds-other by.0 o e past other ∙ by.3)
+
+-- a reply to a command on an object closes nothing
+answered-open : (o : ℕ) (c : Command) (r : Reply) → IsOpenEnded (answered o c r)
+answered-open o c reply.Ok = tt
+answered-open o c (reply.Length n) = tt
+answered-open o c (reply.Bytes x) = tt
+answered-open o c (reply.Range n) = tt
+answered-open o c reply.Exists = tt
+answered-open o c reply.Missing = tt
+answered-open o c (reply.NoSpace n) = tt
+answered-open o c reply.Fault = tt
+answered-open o c reply.Busy = tt
+answered-open o c reply.Full = tt
+answered-open o c reply.NoObject = tt
+answered-open o c reply.Memory = tt
+answered-open o c reply.Idle = tt
+answered-open o c reply.Active = tt
+answered-open o c reply.TooLong = tt
+answered-open o c reply.Worn = tt
+answered-open o c (reply.Status f l h) = tt
+answered-open o c reply.Again = tt
+
+-- the two tests of `ok` are one
+same_test : (r : Reply) → is_done r ≡ is_ok_reply r
+same_test reply.Ok = refl
+same_test other = refl
+
+-- nor does a reply that isn't `ok`
+not_ok-open : (c : Command) (r : Reply) → is_ok_reply r ≡ false → IsOpenEnded (deed c r)
+not_ok-open (Create o t) r other = answered-open o (with_bytes (Create o t)) r
+not_ok-open (Destroy o) r other = answered-open o (with_bytes (Destroy o)) r
+not_ok-open (Length o) r other = answered-open o (with_bytes (Length o)) r
+not_ok-open (Read o at n) r other = answered-open o (with_bytes (Read o at n)) r
+not_ok-open (Append o p) r other = answered-open o (with_bytes (Append o p)) r
+not_ok-open (Insert o at p) r other = answered-open o (with_bytes (Insert o at p)) r
+not_ok-open (Delete o at n) r other = answered-open o (with_bytes (Delete o at n)) r
+not_ok-open (Replace o at p) r other = answered-open o (with_bytes (Replace o at p)) r
+not_ok-open Begin r other = go (is_done r)
+  where
+    go : (done : Bool) → IsOpenEnded (bounded Begin done)
+    go true = tt
+    go false = tt
+not_ok-open Commit r other = go (is_done r) (same_test r ∙ other)
+  where
+    go : (done : Bool) → done ≡ false → IsOpenEnded (bounded Commit done)
+    go true not_done = absurd (false≢true (sym not_done))
+    go false not_done = tt
+not_ok-open Abort r other = go (is_done r) (same_test r ∙ other)
+  where
+    go : (done : Bool) → done ≡ false → IsOpenEnded (bounded Abort done)
+    go true not_done = absurd (false≢true (sym not_done))
+    go false not_done = tt
+not_ok-open Status r other = go (is_done r)
+  where
+    go : (done : Bool) → IsOpenEnded (bounded Status done)
+    go true = tt
+    go false = tt
+
+-- ---- tails
+
+-- the ends of transactions leave no spare
+ended-tails : (n : Numbers) (test : ℕ → Bool) (change : Slot → Slot) (moment : Moment) → change nothing ≡ nothing → ((slot : Slot) → IsTail n (change slot).working (change slot).spare) →
+    HaveTails n moment → HaveTails n (changed_where test change 0 moment)
+ended-tails n test change moment none ends tails o =
+    let P : Slot → Type 0 = λ s. IsTail n s.working s.spare in
+    elim (changed-cases test change none 0 moment o o (omega arith)) [
+      | inl new ↦ subst P (sym new.1) (ends (slot_at moment o))
+      | inr old ↦ subst P (sym old.1) (tails o)
+    ]
+
+-- ---- one line
+
+-- a sound moment, with what is held and its spares
+record IsSteady (n : Numbers) (sessions : ℕ) (past : List Event) (moment : Moment) : Type 0 where
+  sound : IsSound n (is_held sessions past) moment
+  tails : HaveTails n moment
+
+-- a line that moves nothing
+steady-same : (n : Numbers) (sessions : ℕ) (e : Event) (past : List Event) (moment : Moment) → IsOpenEnded (deed_of e) → IsSteady n sessions past moment → IsSteady n sessions (e ∷ past) moment
+steady-same n sessions e past moment is steady = record {
+  sound = sound-held_more n (is_held sessions past) (is_held sessions (e ∷ past)) moment (is_held-stays sessions e past is) steady.sound;
+  tails = steady.tails;
+}
+
+-- an edit that was granted what it asks for
+steady-edit : (n : Numbers) (sessions : ℕ) (e : Event) (past : List Event) (moment : Moment) (o : ℕ) (edit : Edit) (act : Act) → IsInRange n → 1 ≤ e.session → e.session ≤ sessions →
+    is_open e.session past ≡ true → AsksThreshold edit → deed_of e ≡ Does o act → IsSteady n sessions past moment → IsGot (answer_to n moment e.session o edit) →
+    IsSteady n sessions (e ∷ past) (with_slot moment o (slot_of (answer_to n moment e.session o edit)))
+steady-edit n sessions e past moment o edit act range low high active asks is steady got =
+    let more = steady-same n sessions e past moment (subst IsOpenEnded (sym is) tt) steady in
+    let own : holds e.session o (e ∷ past) ≡ true =
+    holds-own e.session o e past (eq-eqb e.session e.session refl)
+    ∙ (ap (λ (d : Deed). holds_after d o (is_open e.session past) (holds e.session o past)) is
+    ∙ or_left ((o == o) && is_open e.session past) (holds e.session o past) (and_from (o == o) (is_open e.session past) (eq-eqb o o refl) active)) in
+    let held : is_held sessions (e ∷ past) o ≡ true = some-at sessions (λ s. holds s o (e ∷ past)) e.session low high own in
+    go (answer_to n moment e.session o edit) refl got more held
+  where
+    go : (answer : Answer Slot) → answer_to n moment e.session o edit ≡ answer → IsGot answer → IsSteady n sessions (e ∷ past) moment → is_held sessions (e ∷ past) o ≡ true →
+        IsSteady n sessions (e ∷ past) (with_slot moment o (slot_of answer))
+    go (Refused pages) was none more held = absurd none
+    go (Got after left) was some more held =
+        let both = edited-sound n (is_held sessions (e ∷ past)) (start_of n e.session) moment o edit after left range more.sound more.tails held asks was in
+        record { sound = both.0; tails = both.1 }
+
+-- a line that is answered `ok`
+steady-ok : (n : Numbers) (sessions : ℕ) (s : ℕ) (c : Command) (past : List Event) (moment : Moment) → IsInRange n → 1 ≤ s → s ≤ sessions →
+    ((edit : Edit) → edit_of c ≡ Some edit → is_open s past ≡ true) → ((edit : Edit) → edit_of c ≡ Some edit → AsksThreshold edit) →
+    IsSteady n sessions past moment → OkToEdit n moment s (object_of c) (edit_of c) →
+    IsSteady n sessions (record { session = s; command = c; reply = reply.Ok } ∷ past) (after_ok n past moment s c)
+steady-ok n sessions s Begin past moment range low high active asks steady got = steady-same n sessions (record { session = s; command = Begin; reply = reply.Ok }) past moment tt steady
+steady-ok n sessions s Status past moment range low high active asks steady got = steady-same n sessions (record { session = s; command = Status; reply = reply.Ok }) past moment tt steady
+steady-ok n sessions s Commit past moment range low high active asks steady got =
+    let e : Event = record { session = s; command = Commit; reply = reply.Ok } in
+    let test = λ (o : ℕ). holds s o past in
+    record {
+      sound = sound-held_more n (held_without (is_held sessions past) test) (is_held sessions (e ∷ past)) (committed_by s past moment)
+          (is_held-others sessions e past) (sound-settled n (is_held sessions past) test moment steady.sound);
+      tails = ended-tails n test settled moment refl (λ slot. tt) steady.tails;
+    }
+steady-ok n sessions s Abort past moment range low high active asks steady got =
+    let e : Event = record { session = s; command = Abort; reply = reply.Ok } in
+    let test = λ (o : ℕ). holds s o past in
+    record {
+      sound = sound-held_more n (held_without (is_held sessions past) test) (is_held sessions (e ∷ past)) (aborted_by s past moment)
+          (is_held-others sessions e past) (sound-undone n (is_held sessions past) test moment steady.sound);
+      tails = ended-tails n test undone moment refl (λ slot. tt) steady.tails;
+    }
+steady-ok n sessions s (Length o) past moment range low high active asks steady got = steady-same n sessions (record { session = s; command = Length o; reply = reply.Ok }) past moment tt steady
+steady-ok n sessions s (Read o at k) past moment range low high active asks steady got = steady-same n sessions (record { session = s; command = Read o at k; reply = reply.Ok }) past moment tt steady
+steady-ok n sessions s (Create o t) past moment range low high active asks steady got =
+    let act : Act = record { command = with_bytes (Create o t); reply = reply.Ok } in
+    steady-edit n sessions (record { session = s; command = Create o t; reply = reply.Ok }) past moment o (edit.Create t) act range low high
+    (active (edit.Create t) refl) (asks (edit.Create t) refl) refl steady got
+steady-ok n sessions s (Destroy o) past moment range low high active asks steady got =
+    let act : Act = record { command = with_bytes (Destroy o); reply = reply.Ok } in
+    steady-edit n sessions (record { session = s; command = Destroy o; reply = reply.Ok }) past moment o (edit.Destroy) act range low high
+    (active (edit.Destroy) refl) (asks (edit.Destroy) refl) refl steady got
+steady-ok n sessions s (Append o p) past moment range low high active asks steady got =
+    let act : Act = record { command = with_bytes (Append o p); reply = reply.Ok } in
+    steady-edit n sessions (record { session = s; command = Append o p; reply = reply.Ok }) past moment o (edit.Append (payload_bytes p)) act range low high
+    (active (edit.Append (payload_bytes p)) refl) (asks (edit.Append (payload_bytes p)) refl) refl steady got
+steady-ok n sessions s (Insert o at p) past moment range low high active asks steady got =
+    let act : Act = record { command = with_bytes (Insert o at p); reply = reply.Ok } in
+    steady-edit n sessions (record { session = s; command = Insert o at p; reply = reply.Ok }) past moment o (edit.Insert at (payload_bytes p)) act range low high
+    (active (edit.Insert at (payload_bytes p)) refl) (asks (edit.Insert at (payload_bytes p)) refl) refl steady got
+steady-ok n sessions s (Delete o at k) past moment range low high active asks steady got =
+    let act : Act = record { command = with_bytes (Delete o at k); reply = reply.Ok } in
+    steady-edit n sessions (record { session = s; command = Delete o at k; reply = reply.Ok }) past moment o (edit.Delete at k) act range low high
+    (active (edit.Delete at k) refl) (asks (edit.Delete at k) refl) refl steady got
+steady-ok n sessions s (Replace o at p) past moment range low high active asks steady got =
+    let act : Act = record { command = with_bytes (Replace o at p); reply = reply.Ok } in
+    steady-edit n sessions (record { session = s; command = Replace o at p; reply = reply.Ok }) past moment o (edit.Replace at (payload_bytes p)) act range low high
+    (active (edit.Replace at (payload_bytes p)) refl) (asks (edit.Replace at (payload_bytes p)) refl) refl steady got
+
+-- ---- a run
+
+ok_is : (r : Reply) → is_ok_reply r ≡ true → r ≡ reply.Ok
+ok_is reply.Ok ok = refl
+ok_is (reply.Length n) ok = absurd (false≢true ok)
+ok_is (reply.Bytes x) ok = absurd (false≢true ok)
+ok_is (reply.Range n) ok = absurd (false≢true ok)
+ok_is reply.Exists ok = absurd (false≢true ok)
+ok_is reply.Missing ok = absurd (false≢true ok)
+ok_is (reply.NoSpace n) ok = absurd (false≢true ok)
+ok_is reply.Fault ok = absurd (false≢true ok)
+ok_is reply.Busy ok = absurd (false≢true ok)
+ok_is reply.Full ok = absurd (false≢true ok)
+ok_is reply.NoObject ok = absurd (false≢true ok)
+ok_is reply.Memory ok = absurd (false≢true ok)
+ok_is reply.Idle ok = absurd (false≢true ok)
+ok_is reply.Active ok = absurd (false≢true ok)
+ok_is reply.TooLong ok = absurd (false≢true ok)
+ok_is reply.Worn ok = absurd (false≢true ok)
+ok_is (reply.Status f l h) ok = absurd (false≢true ok)
+ok_is reply.Again ok = absurd (false≢true ok)
+
+-- an answered line
+steady-after : (n : Numbers) (sessions : ℕ) (e : Event) (past : List Event) (moment : Moment) → IsInRange n → IsInOrder sessions past e → IsSteady n sessions past moment →
+    Agrees n moment e.session e.command e.reply → IsSteady n sessions (e ∷ past) (moment_after n past moment e)
+unfolding moment_after
+steady-after n sessions e past moment range order steady agrees =
+    elim (cases_Bool (is_ok_reply e.reply)) [
+      | inr other ↦
+          let same : (if is_ok_reply e.reply then after_ok n past moment e.session e.command else moment) ≡ moment =
+          ap (λ (b : Bool). if b then after_ok n past moment e.session e.command else moment) other in
+          subst (IsSteady n sessions (e ∷ past)) (sym same) (steady-same n sessions e past moment (not_ok-open e.command e.reply other) steady)
+      | inl ok ↦
+          let is = ok_is e.reply ok in
+          let same : (if is_ok_reply e.reply then after_ok n past moment e.session e.command else moment) ≡ after_ok n past moment e.session e.command =
+          ap (λ (b : Bool). if b then after_ok n past moment e.session e.command else moment) ok in
+          let event : record { session = e.session; command = e.command; reply = reply.Ok } ≡ e = ap (λ (r : Reply). record { session = e.session; command = e.command; reply = r }) (sym is) in
+          let granted_it : OkToEdit n moment e.session (object_of e.command) (edit_of e.command) = subst (Agrees n moment e.session e.command) is agrees in
+          let all = steady-ok n sessions e.session e.command past moment range order.low order.high (λ made is_made. order.open_for_edits made is_made is) order.thresholds steady granted_it in
+          subst (IsSteady n sessions (e ∷ past)) (sym same) (subst (λ (x : Event). IsSteady n sessions (x ∷ past) (after_ok n past moment e.session e.command)) event all)
+    ]
+
+steady-run : (n : Numbers) (sessions : ℕ) (first : Moment) (events : List Event) → IsInRange n → IsSound n (λ o. false) first → HaveTails n first → AllInOrder sessions events → AllAgree n first events →
+    IsSteady n sessions events (moment_of n first events)
+steady-run n sessions first [] range sound tails order agree = record {
+  sound = sound-held_more n (λ o. false) (is_held sessions []) first (λ o none. absurd (false≢true none)) sound;
+  tails = tails;
+}
+steady-run n sessions first (e ∷ past) range sound tails order agree =
+    steady-after n sessions e past (moment_of n first past) range order.1 (steady-run n sessions first past range sound tails order.0 agree.0) agree.1
+
+-- each moment of a run is sound
+pub run-sound : (n : Numbers) (sessions : ℕ) (first : Moment) (events : List Event) → IsInRange n → IsSound n (λ o. false) first → HaveTails n first → AllInOrder sessions events → AllAgree n first events →
+    IsSound n (is_held sessions events) (moment_of n first events) × HaveTails n (moment_of n first events)
+run-sound n sessions first events range sound tails order agree =
+    let steady = steady-run n sessions first events range sound tails order agree in
+    (steady.sound, steady.tails)
+
+both_not : (b : Bool) → (b && not b) ≡ true → false ≡ true
+both_not true both = both
+both_not false both = both
+
+-- and so is the last, in which nothing is held
+pub run-ends : (n : Numbers) (sessions : ℕ) (first last : Moment) (events : List Event) → IsInRange n → IsSound n (λ o. false) first → HaveTails n first → AllInOrder sessions events →
+    Run n sessions first events last → IsSound n (λ o. false) last
+run-ends n sessions first last events range sound tails order run =
+    let steady = steady-run n sessions first events range sound tails order run.agree in
+    let ended = sound-all_aborted n (is_held sessions events) sessions events (moment_of n first events) steady.sound in
+    subst (IsSound n (λ o. false)) (sym run.ends)
+    (sound-held_more n (held_without (is_held sessions events) (λ o. some_upto sessions (λ s. holds s o events))) (λ o. false) (all_aborted sessions events (moment_of n first events))
+    (λ o still. both_not (is_held sessions events o) still) ended)

@@ -1,0 +1,9 @@
+//! Laws on runs: each answered line keeps the moment sound, from a first moment to the last.
+//!
+//! Each law is a function with no argument and no code, whose clause is the law; the lemmas that crates
+//! above cite stand in `proofs/`.
+#![tactic(auto)]
+
+mod runs;
+
+pub use runs::{a_run_ends_sound, a_run_keeps_soundness};

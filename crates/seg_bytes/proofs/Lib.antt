@@ -1,0 +1,6 @@
+pub mod PageCounts
+pub mod Runs
+pub mod Meters
+pub mod Overwrites
+pub mod Reading
+pub mod Writing

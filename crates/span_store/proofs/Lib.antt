@@ -1,0 +1,5 @@
+pub mod SpanLists
+pub mod Runs
+pub mod Meters
+pub mod Overwrites
+pub mod Holds

@@ -1,0 +1,224 @@
+//! Holdings over a device in memory, whose page i is filled with i: what is held, what is read and
+//! written, and what a failed call leaves.
+
+ghost use Rattle.std.specs.Prelude.{◌≡◌, ℕ, ◌+◌, ◌*◌, ◌^◌, ◌<◌, ◌≤◌, IsTrue, true, length};
+ghost use Rattle.page_port.specs.Pages.{AreOf};
+ghost use Rattle.span_store.specs.Held.{AllSized, LacksRun};
+
+use crate::Holdings;
+use page_port::{Bay, FailAt, MemBay, MemPort, MemSpan, Span};
+use std::alloc::{AllocError, Global};
+use std::process::Abort;
+
+/// Eight pages of 256 bytes as one span, and a port whose calls of these numbers fail.
+fn device(rt: &impl Abort, alloc: Global, fail: Vec<FailAt>) -> (MemPort, MemSpan)
+    ensures page { result.0.meter.page ≡ 256 }
+    ensures count { length result.1.pages ≡ 8 }
+    ensures sized { AreOf 256 result.1.pages }
+{
+    let mut bytes = vec![in alloc; 0; 2048].expect(rt, "room for eight pages");
+    for (i, byte) in bytes.iter_mut().enumerate() {
+        *byte = (i / 256) as u8;
+    }
+    let mut bay = MemBay::new(alloc, bytes, fail);
+    let span = bay.mount(256, 8).expect(rt, "eight pages");
+    let port = bay.port().expect(rt, "a port");
+    (port, span)
+}
+
+/// Is none of these pages held?
+fn lacks(held: &Holdings<MemSpan>, first: u32, pages: u32) -> bool
+    requires { first + pages < 2 ^ 32 }
+    ensures { IsTrue result → LacksRun held.now first pages }
+{
+    for page in first..first + pages {
+        if held.holds(page, 1) {
+            return false;
+        }
+    }
+    true
+}
+
+/// Holds a span more.
+fn hold(rt: &impl Abort, held: &mut Holdings<MemSpan>, span: MemSpan)
+    requires sized { AreOf 256 span.pages }
+    requires all { AllSized true 256 held.old }
+    ensures { AllSized true 256 held.new }
+{
+    assert!(rt; lacks(held, span.first(), span.pages()));
+    held.reserve(1).expect(rt, "room for a span");
+    held.add(span);
+}
+
+/// Cuts the first pages off a span.
+fn cut(span: &mut MemSpan, n: u32) -> MemSpan
+    requires some { 1 ≤ n }
+    requires fewer { n < length span.old.pages }
+    requires sized { AreOf 256 span.old.pages }
+    ensures front { AreOf 256 result.pages }
+    ensures rest { AreOf 256 span.new.pages }
+    ensures count { length span.new.pages + n ≡ length span.old.pages }
+{
+    span.cut(n)
+}
+
+/// The pages 1 and 2, 3, and 5 to 7 of the device as three spans, put in out of order; the pages 0 and 4
+/// are not held.
+fn holdings(rt: &impl Abort, alloc: Global, span: MemSpan) -> Holdings<MemSpan>
+    requires count { length span.pages ≡ 8 }
+    requires sized { AreOf 256 span.pages }
+    ensures { AllSized true 256 result }
+{
+    let mut rest = span;
+    let _ = cut(&mut rest, 1);
+    let front = cut(&mut rest, 2);
+    let middle = cut(&mut rest, 1);
+    let _ = cut(&mut rest, 1);
+    let mut held = Holdings::new(alloc);
+    hold(rt, &mut held, middle);
+    hold(rt, &mut held, rest);
+    hold(rt, &mut held, front);
+    held
+}
+
+/// Takes out the span that begins at a page, once it is cut there.
+fn take_at(rt: &impl Abort, held: &mut Holdings<MemSpan>, page: u32) -> (u32, u32)
+    requires { AllSized true 256 held.old }
+    ensures { AllSized true 256 held.new }
+{
+    assert!(rt; held.holds(page, 1));
+    held.cut_at(page).expect(rt, "room for a span");
+    let span = held.remove(page);
+    (span.first(), span.pages())
+}
+
+/// The bytes 0 and 511 of two pages, or 99 where the device failed.
+fn read_two(rt: &impl Abort, held: &Holdings<MemSpan>, port: &mut MemPort, first: u32) -> (u8, u8)
+    requires page { port.old.meter.page ≡ 256 }
+    requires sized { AllSized true 256 held.now }
+    ensures { port.new.meter.page ≡ 256 }
+{
+    assert!(rt; held.holds(first, 2));
+    let mut out = [0; 512];
+    match held.read_run(port, first, &mut out) {
+        Ok(()) => (out[0], out[511]),
+        Err(_) => (99, 99),
+    }
+}
+
+/// Fills two pages with 9. Did the device do it?
+fn write_two(rt: &impl Abort, held: &mut Holdings<MemSpan>, port: &mut MemPort, first: u32) -> bool
+    requires page { port.old.meter.page ≡ 256 }
+    requires sized { AllSized true 256 held.old }
+    ensures page { port.new.meter.page ≡ 256 }
+    ensures sized { AllSized true 256 held.new }
+{
+    assert!(rt; held.holds(first, 2));
+    held.write_run(port, first, &[9; 512]).is_ok()
+}
+
+#[test]
+fn runs_are_held_where_each_page_is(rt: HostRuntime) {
+    let (_, span) = device(&rt, rt.alloc(), Vec::new(rt.alloc()));
+    let held = holdings(&rt, rt.alloc(), span);
+    let cases = [
+        (0, 1, false),
+        (1, 3, true),
+        (1, 4, false),
+        (2, 2, true),
+        (3, 1, true),
+        (4, 1, false),
+        (5, 3, true),
+        (5, 4, false),
+        (9, 1, false),
+        (4, 0, true),
+    ];
+    for (first, pages, want) in cases {
+        assert_eq!(rt; held.holds(first, pages), want, "{first} {pages}");
+    }
+}
+
+#[test]
+fn a_run_is_read_and_written_over_the_spans_that_have_it(rt: HostRuntime) {
+    let (mut port, span) = device(&rt, rt.alloc(), Vec::new(rt.alloc()));
+    let mut held = holdings(&rt, rt.alloc(), span);
+    for (first, want) in [(1, (1, 2)), (2, (2, 3)), (5, (5, 6)), (6, (6, 7))] {
+        assert_eq!(rt;
+            read_two(&rt, &held, &mut port, first),
+            want,
+            "page {first}"
+        );
+    }
+    assert!(rt; write_two(&rt, &mut held, &mut port, 2));
+    for (first, want) in [(1, (1, 9)), (2, (9, 9)), (5, (5, 6))] {
+        assert_eq!(rt;
+            read_two(&rt, &held, &mut port, first),
+            want,
+            "page {first}"
+        );
+    }
+}
+
+#[test]
+fn a_span_is_cut_once_and_taken_out(rt: HostRuntime) {
+    let (_, span) = device(&rt, rt.alloc(), Vec::new(rt.alloc()));
+    let mut held = holdings(&rt, rt.alloc(), span);
+    assert_eq!(rt; take_at(&rt, &mut held, 6), (6, 2));
+    assert_eq!(rt; take_at(&rt, &mut held, 5), (5, 1));
+    assert_eq!(rt; take_at(&rt, &mut held, 1), (1, 2));
+    for (page, want) in [(1, false), (2, false), (3, true), (5, false), (7, false)] {
+        assert_eq!(rt; held.holds(page, 1), want, "page {page}");
+    }
+}
+
+#[test]
+fn spans_are_taken_out_until_none_is_held(rt: HostRuntime) {
+    let (_, span) = device(&rt, rt.alloc(), Vec::new(rt.alloc()));
+    let mut held = holdings(&rt, rt.alloc(), span);
+    let mut pages = 0;
+    for _ in 0..3 {
+        let span = held.take_any().expect(&rt, "three spans");
+        pages = span.pages().saturating_add(pages);
+    }
+    assert_eq!(rt; pages, 6);
+    assert!(rt; held.take_any().is_none());
+}
+
+#[test]
+fn a_failed_call_leaves_the_other_pages(rt: HostRuntime) -> Result<(), AllocError> {
+    let cases = [(false, 1), (false, 2), (true, 1), (true, 2)];
+    for (write, call) in cases {
+        let fail = vec![in rt.alloc();
+            FailAt {
+                port: 1,
+                write,
+                call
+            },
+        ]?;
+        let (mut port, span) = device(&rt, rt.alloc(), fail);
+        let mut held = holdings(&rt, rt.alloc(), span);
+        let first = read_two(&rt, &held, &mut port, 2);
+        assert_eq!(rt;
+            first,
+            if write { (2, 3) } else { (99, 99) },
+            "{write} {call}"
+        );
+        assert_eq!(rt;
+            write_two(&rt, &mut held, &mut port, 2),
+            !write,
+            "{write} {call}"
+        );
+        assert_eq!(rt;
+            read_two(&rt, &held, &mut port, 5),
+            (5, 6),
+            "{write} {call}"
+        );
+        assert!(rt; write_two(&rt, &mut held, &mut port, 2));
+        assert_eq!(rt;
+            read_two(&rt, &held, &mut port, 2),
+            (9, 9),
+            "{write} {call}"
+        );
+    }
+    Ok(())
+}

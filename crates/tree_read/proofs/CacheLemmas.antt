@@ -1,0 +1,85 @@
+-- Nodes that the cache keeps cost no page, and the nodes of a level are no more than the segments found.
+use Rattle.std.proofs.Common.{◌≡◌, ℕ, zero, suc, ◌+◌, ◌*◌, ◌≤◌, true, List, [], ◌∷◌, ◌++◌, length, refl, sym, ap, subst, ◌∙◌, append-nil, arith}
+use Rattle.std.specs.Prelude.{IsSome, is_some, nat_lt}
+use Rattle.std.specs.List.{AllByRecursion}
+use Rattle.std.proofs.Math.Nat.{suc-mul}
+use Rattle.std.proofs.lemmas.Bool.{lt-ltb}
+use Rattle.tree_model.specs.declared.entry.Pair.{Pair}
+use Rattle.tree_model.specs.declared.entry.Placed.{Placed}
+use Rattle.tree_model.specs.Tree.{Pages, AreTrees, pairs_on}
+use Rattle.tree_model.specs.Range.{in_range, is_in_range, pairs_of}
+use Rattle.page_port.specs.Counts.{Meter}
+use Rattle.page_cache.specs.Kept.{KeepsSame, KeptNodes, kept}
+use Rattle.tree_read.specs.Cost.{AreKept, CostsNothing, below, nodes_in_range}
+use Rattle.tree_read.specs.Search.{top}
+use Rattle.tree_read.proofs.TreeLemmas.{found, length-found}
+use Rattle.tree_read.proofs.LevelLemmas.{AreTrees-below, below-each, found-below, length-nodes, root_pair}
+
+-- no call
+pub CostsNothing-none : (cache : KeptNodes) (m : Meter) → CostsNothing cache cache m m
+CostsNothing-none cache m = record { same = record { each = λ page. refl; most = refl }; read = refl }
+
+-- one after the other
+pub CostsNothing-then : (a b c : KeptNodes) (old mid new : Meter) → CostsNothing a b old mid → CostsNothing b c mid new → CostsNothing a c old new
+CostsNothing-then a b c old mid new first second = record {
+  same = record { each = λ page. second.same.each page ∙ first.same.each page; most = second.same.most ∙ first.same.most };
+  read = second.read ∙ first.read;
+}
+
+-- what is kept is kept where the same is kept
+pub kept-same : (a b : KeptNodes) (page : ℕ) → KeepsSame a b → IsSome (kept a page) → IsSome (kept b page)
+kept-same a b page same held = ap is_some (same.each page) ∙ held
+
+pub AreKept-same : (a b : KeptNodes) (nodes : List Placed) → KeepsSame a b → AreKept a nodes → AreKept b nodes
+AreKept-same a b [] same held = tt
+AreKept-same a b (s ∷ nodes) same held = (kept-same a b s.pair.page same held.0, AreKept-same a b nodes same held.1)
+
+pub AreKept-front : (cache : KeptNodes) (xs ys : List Placed) → AreKept cache (xs ++ ys) → AreKept cache xs
+AreKept-front cache [] ys held = tt
+AreKept-front cache (x ∷ xs) ys held = (held.0, AreKept-front cache xs ys held.1)
+
+pub AreKept-back : (cache : KeptNodes) (xs ys : List Placed) → AreKept cache (xs ++ ys) → AreKept cache ys
+AreKept-back cache [] ys held = held
+AreKept-back cache (x ∷ xs) ys held = AreKept-back cache xs ys held.1
+
+-- a level of nodes, and those below it
+pub AreKept-level : (cache : KeptNodes) (at : Pages) (from to level next : ℕ) (ss : List Placed) → level ≡ suc next → AreKept cache (nodes_in_range at from to level ss) → AreKept cache ss
+AreKept-level cache at from to level next ss e held =
+    AreKept-front cache ss (nodes_in_range at from to next (below at from to ss)) (subst (λ (n : ℕ). AreKept cache (nodes_in_range at from to n ss)) e held)
+
+pub AreKept-below : (cache : KeptNodes) (at : Pages) (from to level next : ℕ) (ss : List Placed) → level ≡ suc next → AreKept cache (nodes_in_range at from to level ss) → AreKept cache (nodes_in_range at from to next (below at from to ss))
+AreKept-below cache at from to level next ss e held =
+    AreKept-back cache ss (nodes_in_range at from to next (below at from to ss)) (subst (λ (n : ℕ). AreKept cache (nodes_in_range at from to n ss)) e held)
+
+-- the search for one byte starts at the root
+pub AreKept-root : (cache : KeptNodes) (pages : Pages) (at height page bytes : ℕ) (s : Placed) → root_pair page bytes ≡ s
+    → AreKept cache (nodes_in_range pages at (at + 1) height (top (record { height = height; page = page; length = bytes }) at (at + 1)))
+    → AreKept cache (nodes_in_range pages at (at + 1) height (s ∷ []))
+AreKept-root cache pages at zero page bytes s e held = tt
+AreKept-root cache pages at (suc height) page bytes s e held =
+    let node : nat_lt 0 (suc height) ≡ true = lt-ltb 0 (suc height) (omega arith) in
+    let some : nat_lt at (at + 1) ≡ true = lt-ltb at (at + 1) (omega arith) in
+    let is : top (record { height = suc height; page = page; length = bytes }) at (at + 1) ≡ root_pair page bytes ∷ [] = rw (node, some) refl in
+    subst (λ (r : Placed). AreKept cache (nodes_in_range pages at (at + 1) (suc height) (r ∷ []))) e
+    (subst (λ (ss : List Placed). AreKept cache (nodes_in_range pages at (at + 1) (suc height) ss)) is held)
+
+-- and goes on with the one child that has the byte
+pub AreKept-child : (cache : KeptNodes) (pages : Pages) (at level next : ℕ) (s r : Placed) (ps : List Pair) → level ≡ suc next → ps ≡ pairs_on pages s.pair.page → in_range at (at + 1) s.start ps ≡ r ∷ []
+    → AreKept cache (nodes_in_range pages at (at + 1) level (s ∷ [])) → AreKept cache (nodes_in_range pages at (at + 1) next (r ∷ []))
+AreKept-child cache pages at level next s r ps e pairs one held =
+    let kids : below pages at (at + 1) (s ∷ []) ≡ r ∷ [] =
+    append-nil (in_range at (at + 1) s.start (pairs_on pages s.pair.page)) ∙ ap (in_range at (at + 1) s.start) (sym pairs) ∙ one in
+    subst (λ (ss : List Placed). AreKept cache (nodes_in_range pages at (at + 1) next ss)) kids (AreKept-below cache pages at (at + 1) level next (s ∷ []) e held)
+
+-- each level has no more nodes than there are segments under them
+pub length-nodes-found : (at : Pages) (from to height : ℕ) (ss : List Placed) → AllByRecursion (λ s. is_in_range from to s ≡ true) ss → AreTrees at 0 height (pairs_of ss)
+    → length (nodes_in_range at from to height ss) ≤ height * length (found at height from to ss)
+length-nodes-found at from to zero ss each trees = omega arith
+length-nodes-found at from to (suc height) ss each trees =
+    let here = length-found at 0 (suc height) from to ss each trees in
+    let below_all = length-nodes-found at from to height (below at from to ss) (below-each at from to ss) (AreTrees-below at height from to ss trees) in
+    let same = ap length (found-below at height from to ss trees) in
+    let count = length-nodes at from to height ss in
+    let times = ap (λ (n : ℕ). height * n) same in
+    let more = suc-mul height (length (found at (suc height) from to ss)) in
+    omega (arith, here, below_all, same, count, times, more)

@@ -1,0 +1,8 @@
+use Rattle.std.proofs.Common.{◌≡◌, map}
+use Rattle.std.specs.List.{range_with_len}
+use Rattle.world.specs.Start.{first_txn}
+use Rattle.world.proofs.start.idle_sessions.Given as goal
+
+-- so many sessions are there, each with nothing open
+abbrev pub invariant-loop-place : goal.invariant-loop-place
+invariant-loop-place l = l.txns.items ≡ map (first_txn l.objects) (range_with_len 0 l.place)
