@@ -4,7 +4,8 @@
 Usage: bench/lines.py [LINES]      (default: 100000)
 
 Makes a script of LINES lines in which four sessions edit and read objects of some kilobytes, runs it three
-times by the program that ./eos builds, and prints the best run. The script is the same each time.
+times by the program that ./eos builds, which is built first where it is missing, and prints the best run. The
+script is the same each time.
 """
 import os
 import subprocess
@@ -13,6 +14,7 @@ import tempfile
 import time
 
 TOP = os.path.join(os.path.dirname(os.path.abspath(__file__)), '..')
+PROGRAM = os.path.join(TOP, 'crates', 'eos_cli', 'out', 'eos_cli')
 LIMIT = 8192        # an object that grows past this is cut back
 SESSIONS = 4
 
@@ -80,10 +82,11 @@ def main():
     best = None
     with tempfile.TemporaryDirectory() as folder:
         image = os.path.join(folder, 'store.img')
+        subprocess.run([os.path.join(TOP, 'eos'), 'script', image], input=b'', check=True)
         for _ in range(3):
             begin = time.perf_counter()
-            run = subprocess.run([os.path.join(TOP, 'eos'), 'script', image], input=text,
-                                 stdout=subprocess.PIPE, timeout=600)
+            run = subprocess.run([PROGRAM, 'script', image], input=text, stdout=subprocess.PIPE,
+                                 timeout=600)
             taken = time.perf_counter() - begin
             if run.returncode or run.stdout.count(b'\n') != lines:
                 print(f'status {run.returncode}, {run.stdout.count(b"%c" % 10)} replies', file=sys.stderr)

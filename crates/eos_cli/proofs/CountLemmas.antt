@@ -1,5 +1,5 @@
 -- A script has no more lines than bytes, and no more events than lines.
-use Rattle.std.proofs.Common.{◌≡◌, ℕ, suc, ◌+◌, ◌<◌, ◌≤◌, ◌⊎◌, inl, inr, Bool, true, false, cond, ◌==◌, List, [], ◌∷◌, ◌++◌, length, refl, subst, sym, ap, arith}
+use Rattle.std.proofs.Common.{ℕ, suc, ◌≤◌, inl, inr, Bool, true, false, cond, ◌==◌, List, [], ◌∷◌, length, arith}
 use Rattle.history.specs.Event.{Event}
 use Rattle.script_model.specs.Transcript.{script_lines, onto_line, Answers}
 

@@ -1,5 +1,5 @@
 -- A line of the language that was answered, as an event of the machine.
-use Rattle.std.proofs.Common.{◌≡◌, ℕ, ◌<◌, ◌≤◌, List, length, IsSome, Result, Ok, Err, OnOk, OnErr, refl, sym, ap, subst, inl, inr, arith}
+use Rattle.std.proofs.Common.{◌≡◌, ℕ, List, length, IsSome, Result, Ok, Err, OnOk, OnErr, refl, sym, ap, inl, inr, arith}
 use Rattle.eos_ops.specs.declared.command.Command.{Command}
 use Rattle.eos_ops.specs.declared.limits.TheConstants.{SESSIONS}
 use Rattle.eos_ops.specs.declared.reply.Reply.{Reply}
@@ -16,7 +16,6 @@ use Rattle.script_model.specs.declared.line.Line.{Line}
 use Rattle.script_model.specs.Grammar.{IsLine}
 use Rattle.script_model.specs.Replies.{reply_line}
 use Rattle.eos_cli.specs.Served.{IsLineRun}
-use Rattle.eos_cli.specs.Headline.{IsAnswer}
 use Rattle.eos_cli.proofs.PlainLemmas.{plain_reply}
 
 session_of : (text : List ℕ) (m : Machine) (l : Line) → IsLine text l → length m.seats ≡ SESSIONS → IsSession m l.session
@@ -49,10 +48,6 @@ line-unread text m s c line object seats = inr (
   ),
 )
 
--- the answer to a line of the language
-pub line-answer : (text : List ℕ) (s : ℕ) (c : Command) (r : Reply) → IsLine text (record { session = s; command = c }) → IsAnswer text (reply_line s r)
-line-answer text s c r line = inr (record { session = s; command = c; reply = r }, record { line = line; reply = refl })
-
 -- what holds where a call succeeds, or fails, leads on to what follows from it
 pub on_ok : {A E P Q : Type 0} (r : Result A E) → (P → Q) → OnOk r P → OnOk r Q
 on_ok (Ok v) f p = f p
@@ -61,6 +56,10 @@ on_ok (Err e) f p = tt
 pub on_err : {A E P Q : Type 0} (r : Result A E) → (P → Q) → OnErr r P → OnErr r Q
 on_err (Ok v) f p = tt
 on_err (Err e) f p = f p
+
+pub always_on_err : {A E P : Type 0} (r : Result A E) → P → OnErr r P
+always_on_err (Ok v) h = tt
+always_on_err (Err e) h = h
 
 -- a command that brings bytes is on an object
 pub brings-object : (c : Command) → BringsBytes c → IsSome (object_of c)

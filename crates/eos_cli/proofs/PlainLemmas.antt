@@ -1,7 +1,6 @@
 -- The replies of plain objects tell of no space and of no fault.
-use Rattle.std.proofs.Common.{◌≡◌, ℕ, ◌+◌, ◌⊎◌, inl, inr, Bool, true, false, cond, Option, Some, None, IsTrue, length, refl, subst, sym}
-use Rattle.std.specs.Prelude.{nat_le, IfSome, unwrap_or}
-use Rattle.std.specs.Option.{option_map_or}
+use Rattle.std.proofs.Common.{◌≡◌, ℕ, ◌+◌, inl, inr, Bool, true, false, cond, Option, Some, None, IsTrue, length, refl, subst, sym}
+use Rattle.std.specs.Prelude.{nat_le, unwrap_or}
 use Rattle.eos_ops.specs.declared.command.Command.{Command}
 use Rattle.eos_ops.specs.declared.command.Command.TheVariants.{Begin, Create, Destroy, Length, Read, Append, Insert, Delete, Replace, Commit, Abort, Status}
 use Rattle.eos_ops.specs.declared.edit.Edit.TheVariants as edit

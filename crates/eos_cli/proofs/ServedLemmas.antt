@@ -1,17 +1,15 @@
 -- One line more that was run.
-use Rattle.std.proofs.Common.{◌≡◌, ℕ, ◌⊎◌, inl, inr, List, [], ◌∷◌, ◌++◌, Option, IsTrue, Some, None, reverse, refl, ap, sym, ◌∙◌, subst, append_assoc, append-nil}
+use Rattle.std.proofs.Common.{ℕ, inl, inr, List, [], ◌∷◌, ◌++◌, Option, Some, None, reverse, refl, ap, sym, ◌∙◌, subst, append_assoc, append-nil}
 use Rattle.std.proofs.lemmas.List.{reverse-append}
-use Rattle.edge_io.specs.Moved.{Appends, AppendsPart}
-use Rattle.history.specs.Event.{Event, deed, deed_of}
-use Rattle.machine.specs.Machine.{Machine, IsSession}
+use Rattle.edge_io.specs.Moved.{Appends}
+use Rattle.history.specs.Event.{Event, deed_of}
+use Rattle.machine.specs.Machine.{Machine}
 use Rattle.machine.specs.Next.{next}
-use Rattle.machine.specs.Replies.{Replies}
-use Rattle.machine.specs.Runs.{IsRun, IsEvent, state_after}
+use Rattle.machine.specs.Runs.{IsEvent}
 use Rattle.script_model.specs.Grammar.{IsNoLine}
 use Rattle.script_model.specs.Replies.{no_line_reply}
 use Rattle.script_model.specs.Transcript.{Answers, IsTold}
-use Rattle.eos_cli.specs.Headline.{IsAnswer, IsFront, is_plain_reply}
-use Rattle.eos_cli.specs.Served.{Served, Broken, RunsLine, start}
+use Rattle.eos_cli.specs.Served.{AreRun, Broken, CutsLine, IsCut, IsLineRun, RunsLine, Served}
 
 appends-none : (x : Option (List ℕ)) → Appends [] x x
 appends-none None = refl
@@ -22,13 +20,9 @@ pub served-none : (m : Machine) (all : List (List ℕ)) (before : Option (List �
 served-none m all before = record {
   lines = [];
   output = [];
-  past = [];
   parts = refl;
   appended = appends-none before;
-  answers = (refl, refl);
-  run = tt;
-  plain = tt;
-  state = refl;
+  ran = record { past = []; answers = (refl, refl); run = tt; plain = tt; state = refl };
 }
 
 -- two outputs, one after the other
@@ -55,65 +49,58 @@ answers-told (line ∷ lines) text output answer events e (inl (rest, (here, cut
 answers-told (line ∷ lines) text output answer events e (inr (reply, rest, first, later, (cut, told, here, more))) is =
     inr (reply, rest ++ answer, first, later ++ e ∷ [], (ap (λ o. o ++ answer) cut ∙ append_assoc reply rest answer, ap (λ es. es ++ e ∷ []) told, here, answers-told lines text rest answer later e more is))
 
--- a line of the language, answered: one event more
-pub served-told : (m : Machine) (all rest : List (List ℕ)) (text answer : List ℕ) (before now then : Option (List ℕ)) (m' m'' : Machine) (e : Event) → Served m all (text ∷ rest) before now m' → IsTold text answer e → IsEvent m' e → IsTrue (is_plain_reply e.reply) → m'' ≡ next m' e.session (deed_of e) → Appends answer now then → Served m all rest before then m''
-served-told m all rest text answer before now then m' m'' e so told event plain moved wrote = record {
+-- One line more was run: a line of the language is one event more, and any other text is none.
+pub ran-more : (m m' m'' : Machine) (lines : List (List ℕ)) (output text answer : List ℕ) → AreRun m lines output m' → IsLineRun text m' m'' answer → AreRun m (lines ++ text ∷ []) (output ++ answer) m''
+ran-more m m' m'' lines output text answer ran (inl (bad, same, stays)) = record {
+  past = ran.past;
+  answers =
+      let P : List ℕ → Type 0 = λ answer. Answers (lines ++ text ∷ []) (output ++ answer) (reverse ran.past) in
+      subst P (sym same) (answers-bad lines text output (reverse ran.past) ran.answers bad);
+  run = ran.run;
+  plain = ran.plain;
+  state = stays ∙ ran.state;
+}
+ran-more m m' m'' lines output text answer ran (inr (e, (told, event, plain, moved))) = record {
+  past = e ∷ ran.past;
+  answers =
+      let P : List Event → Type 0 = λ events. Answers (lines ++ text ∷ []) (output ++ answer) events in
+      subst P (sym (reverse-append (e ∷ []) ran.past)) (answers-told lines text output answer (reverse ran.past) e ran.answers told);
+  run = (ran.run, subst (λ s. IsEvent s e) ran.state event);
+  plain = (ran.plain, plain);
+  state = moved ∙ ap (λ s. next s e.session (deed_of e)) ran.state;
+}
+
+-- and its answer was written
+pub served-line : (m : Machine) (all rest : List (List ℕ)) (text : List ℕ) (before now then : Option (List ℕ)) (m' m'' : Machine) → Served m all (text ∷ rest) before now m' → RunsLine text m' m'' now then → Served m all rest before then m''
+served-line m all rest text before now then m' m'' so (answer, (line, wrote)) = record {
   lines = so.lines ++ text ∷ [];
   output = so.output ++ answer;
-  past = e ∷ so.past;
   parts = so.parts ∙ sym (append_assoc so.lines (text ∷ []) rest);
   appended = appends-more so.output answer before now then so.appended wrote;
-  answers =
-      let P : List Event → Type 0 = λ events. Answers (so.lines ++ text ∷ []) (so.output ++ answer) events in
-      subst P (sym (reverse-append (e ∷ []) so.past)) (answers-told so.lines text so.output answer (reverse so.past) e so.answers told);
-  run = (so.run, subst (λ s. IsEvent s e) so.state event);
-  plain = (so.plain, plain);
-  state = moved ∙ ap (λ s. next s e.session (deed_of e)) so.state;
+  ran = ran-more m m' m'' so.lines so.output text answer so.ran line;
 }
-
--- a text that is no line, answered: no event
-pub served-bad : (m : Machine) (all rest : List (List ℕ)) (text : List ℕ) (before now then : Option (List ℕ)) (m' : Machine) → Served m all (text ∷ rest) before now m' → IsNoLine text → Appends no_line_reply now then → Served m all rest before then m'
-served-bad m all rest text before now then m' so bad wrote = record {
-  lines = so.lines ++ text ∷ [];
-  output = so.output ++ no_line_reply;
-  past = so.past;
-  parts = so.parts ∙ sym (append_assoc so.lines (text ∷ []) rest);
-  appended = appends-more so.output no_line_reply before now then so.appended wrote;
-  answers = answers-bad so.lines text so.output (reverse so.past) so.answers bad;
-  run = so.run;
-  plain = so.plain;
-  state = so.state;
-}
-
--- a text that was answered, either way
-pub served-line : (m : Machine) (all rest : List (List ℕ)) (text : List ℕ) (before now then : Option (List ℕ)) (m' m'' : Machine) → Served m all (text ∷ rest) before now m' → RunsLine text m' m'' now then → Served m all rest before then m''
-served-line m all rest text before now then m' m'' so (answer, (inl (bad, same, stays), wrote)) =
-    let P : Machine → Type 0 = λ s. Served m all rest before then s in
-    subst P (sym stays) (served-bad m all rest text before now then m' so bad (subst (λ a. Appends a now then) same wrote))
-served-line m all rest text before now then m' m'' so (answer, (inr (e, (told, event, plain, moved)), wrote)) =
-    served-told m all rest text answer before now then m' m'' e so told event plain moved wrote
 
 -- nothing more was written
-pub front-none : (rest : List (List ℕ)) (written : Option (List ℕ)) → IsFront rest written written
-front-none [] written = refl
-front-none (text ∷ rest) written = inl refl
+cut-none : (m : Machine) (rest : List (List ℕ)) (written : Option (List ℕ)) → IsCut m rest written written
+cut-none m [] written = refl
+cut-none m (text ∷ rest) written = inl refl
 
 -- no line was run, and nothing was written
-pub broken-none : (all : List (List ℕ)) (written : Option (List ℕ)) → Broken all written written
-broken-none all written = record {
+pub broken-none : (m : Machine) (all : List (List ℕ)) (written : Option (List ℕ)) → Broken m all written written
+broken-none m all written = record {
   rest = all;
   between = written;
-  state = start;
-  served = served-none start all written;
-  front = front-none all written;
+  state = m;
+  served = served-none m all written;
+  cut = cut-none m all written;
 }
 
--- the answer to the next line was cut short
-pub broken-line : (all rest : List (List ℕ)) (text answer : List ℕ) (before between now : Option (List ℕ)) (m : Machine) → Served start all (text ∷ rest) before between m → IsAnswer text answer → AppendsPart answer between now → Broken all before now
-broken-line all rest text answer before between now m so is part = record {
+-- the next line was run, and its answer was cut
+pub broken-line : (m : Machine) (all rest : List (List ℕ)) (text : List ℕ) (before between now : Option (List ℕ)) (m' m'' : Machine) → Served m all (text ∷ rest) before between m' → CutsLine text m' m'' between now → Broken m all before now
+broken-line m all rest text before between now m' m'' so cut = record {
   rest = text ∷ rest;
   between = between;
-  state = m;
+  state = m';
   served = so;
-  front = inr (answer, (is, part));
+  cut = inr (m'', cut);
 }

@@ -11,9 +11,7 @@ use Rattle.history.specs.Refusals.{AllCaused}
 use Rattle.history.specs.Serial.{Serial}
 use Rattle.history.specs.Transactions.{ends}
 use Rattle.script_model.specs.declared.limits.TheConstants.{MAX_SCRIPT}
-use Rattle.script_model.specs.Grammar.{IsNoLine}
-use Rattle.script_model.specs.Replies.{no_line_reply}
-use Rattle.script_model.specs.Transcript.{Answers, IsTold, script_lines, has_long_line}
+use Rattle.script_model.specs.Transcript.{Answers, script_lines, has_long_line}
 use Rattle.eos_cli.specs.declared.script.TheConstants.{OBJECTS}
 
 -- the script has more bytes than a script may have, or a line that has more than a line may have
@@ -58,18 +56,17 @@ pub record Done (left left' written written' : Option (List ℕ)) : Type 0 where
   pub wrote : Appends output written written'
   pub ran : HasRun input output
 
--- the answer to a text: `?`, or the line of a reply
-abbrev pub IsAnswer : List ℕ → List ℕ → Type 0
-IsAnswer text answer = (IsNoLine text × (answer ≡ no_line_reply)) ⊎ ((e : Event) × IsTold text answer e)
+-- Nothing more was written; or the next of the lines was run too, its answer stands behind the others, and a front
+-- of that answer, which isn't the whole, was written.
+abbrev pub IsFront : List (List ℕ) → List ℕ → List (List ℕ) → Option (List ℕ) → Option (List ℕ) → Type 0
+IsFront lines output [] written written' = written' ≡ written
+IsFront lines output (text ∷ rest) written written' =
+    (written' ≡ written)
+    ⊎ ((answer : List ℕ) × (HasRunLines (lines ++ text ∷ []) (output ++ answer)
+    × AppendsPart answer written written'))
 
--- nothing more was written, or of the answer to the first of these lines a front that isn't the whole
-abbrev pub IsFront : List (List ℕ) → Option (List ℕ) → Option (List ℕ) → Type 0
-IsFront [] written written' = written' ≡ written
-IsFront (text ∷ rest) written written' =
-    (written' ≡ written) ⊎ ((answer : List ℕ) × (IsAnswer text answer × AppendsPart answer written written'))
-
--- A run whose output was cut short: it read the input to its end and ran some lines, whose answers it wrote; of the
--- next answer it wrote a front at most, and nothing after it.
+-- A run whose output was cut short: it read the input to its end and ran some lines, whose answers it wrote. Of the
+-- answer to the next line, which has its cause in those before it, it wrote a front at most, and nothing after it.
 pub record CutShort (left left' written written' : Option (List ℕ)) : Type 0 where
   pub input : List ℕ
   pub lines : List (List ℕ)
@@ -81,4 +78,4 @@ pub record CutShort (left left' written written' : Option (List ℕ)) : Type 0 w
   pub parts : script_lines input ≡ lines ++ rest
   pub ran : HasRunLines lines output
   pub wrote : Appends output written between
-  pub front : IsFront rest between written'
+  pub front : IsFront lines output rest between written'

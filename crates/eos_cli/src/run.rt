@@ -17,10 +17,12 @@ use std::alloc::Global;
 
 /// The whole input, where it is no longer than a script may be and has no line that is too long.
 fn read_script<I: Source>(alloc: Global, input: &mut I) -> Result<Vec<u8>, Failure>
-    ensures all { IfOk result (λ script. GaveAll script.items (I.left input.old) (I.left input.new)) }
+    ensures all { IfOk result
+        (λ script. GaveAll script.items (I.left input.old) (I.left input.new)) }
     ensures short { IfOk result (λ script. IsLong script.items → ⊥) }
     ensures long { result ≡ Err Failure.Long → IfSome (I.left input.old) IsLong }
-    ensures cause { HasCause (I.faults input.old) (I.faults input.new) (result ≡ Err Failure.Input) }
+    ensures cause { HasCause (I.faults input.old) (I.faults input.new)
+        (result ≡ Err Failure.Input) }
     ensures usage { (result ≡ Err Failure.Usage) → ⊥ }
     ensures output { (result ≡ Err Failure.Output) → ⊥ }
 {
@@ -43,18 +45,25 @@ fn run_words<I: Source, O: Sink>(
     input: &mut I,
     output: &mut O,
 ) -> Result<(), Failure>
-    ensures usage { (result ≡ Err Failure.Usage) ↔ (is_script (map string_bytes words.now) ≡ false) }
+    ensures usage { (result ≡ Err Failure.Usage)
+        ↔ (is_script (map string_bytes words.now) ≡ false) }
     ensures unread { result ≡ Err Failure.Usage → I.left input.new ≡ I.left input.old }
-    ensures input { HasCause (I.faults input.old) (I.faults input.new) (result ≡ Err Failure.Input) }
-    ensures output { HasCause (O.faults output.old) (O.faults output.new) (result ≡ Err Failure.Output) }
+    ensures input { HasCause (I.faults input.old) (I.faults input.new)
+        (result ≡ Err Failure.Input) }
+    ensures output { HasCause (O.faults output.old) (O.faults output.new)
+        (result ≡ Err Failure.Output) }
     ensures long { result ≡ Err Failure.Long → IfSome (I.left input.old) IsLong }
-    ensures within { result ≡ Err Failure.Output → IfSome (I.left input.old) (λ script. IsLong script → ⊥) }
-    ensures silent { (result ≡ Err Failure.Usage) ⊎ ((result ≡ Err Failure.Input) ⊎ (result ≡ Err Failure.Long))
+    ensures within { result ≡ Err Failure.Output
+        → IfSome (I.left input.old) (λ script. IsLong script → ⊥) }
+    ensures silent { (result ≡ Err Failure.Usage)
+        ⊎ ((result ≡ Err Failure.Input) ⊎ (result ≡ Err Failure.Long))
         → O.written output.new ≡ O.written output.old }
     ensures cut { (result ≡ Err Failure.Output) ⊎ (result ≡ Err Failure.Memory) →
         (O.written output.new ≡ O.written output.old)
-        ⊎ CutShort (I.left input.old) (I.left input.new) (O.written output.old) (O.written output.new) }
-    ensures done { OnOk result (Done (I.left input.old) (I.left input.new) (O.written output.old) (O.written output.new)) }
+        ⊎ CutShort (I.left input.old) (I.left input.new)
+        (O.written output.old) (O.written output.new) }
+    ensures done { OnOk result (Done (I.left input.old) (I.left input.new)
+        (O.written output.old) (O.written output.new)) }
 {
     if !is_script(words) {
         return Err(Failure::Usage);
@@ -93,16 +102,21 @@ pub fn run_alone<I: Source, O: Sink>(
     ensures long { result ≡ 7 → IfSome (I.left input.old) IsLong }
     ensures within { result ≡ 4 → IfSome (I.left input.old) (λ script. IsLong script → ⊥) }
 
-    // After a failure before the first line nothing was written, and after one of the words nothing was read.
+    // After a failure before the first line nothing was written, and after one of the words
+    // nothing was read.
     ensures unread { result ≡ 2 → I.left input.new ≡ I.left input.old }
-    ensures silent { (result ≡ 2) ⊎ ((result ≡ 3) ⊎ (result ≡ 7)) → O.written output.new ≡ O.written output.old }
+    ensures silent { (result ≡ 2) ⊎ ((result ≡ 3) ⊎ (result ≡ 7))
+        → O.written output.new ≡ O.written output.old }
 
-    // After a failure while lines were run the output has the answers to those that were.
+    // After a failure while lines were run the output has the answers to those that were, the last
+    // of them in part or not at all.
     ensures cut { (result ≡ 4) ⊎ (result ≡ 8) → (O.written output.new ≡ O.written output.old)
-        ⊎ CutShort (I.left input.old) (I.left input.new) (O.written output.old) (O.written output.new) }
+        ⊎ CutShort (I.left input.old) (I.left input.new)
+        (O.written output.old) (O.written output.new) }
 
     // The committed transactions are those of one serial history, and each reply has its cause.
-    ensures done { result ≡ 0 → Done (I.left input.old) (I.left input.new) (O.written output.old) (O.written output.new) }
+    ensures done { result ≡ 0 → Done (I.left input.old) (I.left input.new)
+        (O.written output.old) (O.written output.new) }
 {
     match run_words(alloc, words, input, output) {
         Ok(()) => 0,

@@ -42,6 +42,7 @@ fn run(
 fn worked_scripts_get_their_replies(rt: HostRuntime) -> Result<(), Fail> {
     let rows = [
         ("", ""),
+        ("1 begin/1 create 0", "1 ok/1 ok"),
         (
             "1 begin/1 create 0/1 append 0 x414243/1 read 0 1 2/1 commit",
             "1 ok/1 ok/1 ok/1 bytes x4243/1 ok",

@@ -7,6 +7,8 @@ use crate::{Command, Reply};
 /// The payload of the command stands as its bytes.
 #[derive(Debug, Drop)]
 pub struct Act {
+    /// What the transaction asked for.
     pub command: Command,
+    /// What the object answered.
     pub reply: Reply,
 }

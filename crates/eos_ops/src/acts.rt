@@ -47,6 +47,8 @@ impl Acts {
     }
 
     /// Adds an act.
+    ///
+    /// `AllocError` says that there was no memory for it. The act is then lost, and the others stay.
     pub fn push(&mut self, act: Act) -> Result<(), AllocError>
         ensures ok { OnOk result (self.new ≡ self.old ++ act ∷ []) }
         ensures err { OnErr result (self.new ≡ self.old) }

@@ -34,6 +34,8 @@ pub trait Annals: Drop + Send {
         ensures value { result ≡ tells };
 
     /// Makes room for `n` more ends.
+    ///
+    /// `AllocError` says that there was no memory for it. The ends stay, and so does the room that there was.
     fn reserve(&mut self, n: usize) -> Result<(), AllocError>
         ensures ok { OnOk result (n ≤ spare self.new) }
         ensures spare { spare self.old ≤ spare self.new }

@@ -54,6 +54,8 @@ impl Annals for Blank {
 
     fn reserve(&mut self, _n: usize) -> Result<(), AllocError>
         ensures always { IsOk result }
+
+        // What the trait promises after Ok: a `usize` is always within the room that there is.
         ensures room { _n ≤ 2 ^ 64 }
         ensures same { self.new ≡ self.old }
     {

@@ -1,6 +1,6 @@
 //! A string of bytes that contracts see as a list, and the four changes that edits make to it.
 
-ghost use Rattle.std.specs.Prelude.{◌≡◌, ℕ, ◌+◌, ◌<◌, ◌≤◌, ◌==◌, [], ◌++◌, length, take, drop, OnOk, OnErr, IfOk};
+ghost use Rattle.std.specs.Prelude.{◌≡◌, ℕ, ◌+◌, ◌<◌, ◌≤◌, ◌==◌, [], ◌++◌, length, take, drop, nat_le, OnOk, OnErr, IfOk};
 ghost use Rattle.eos_ops.specs.Splice.{part, inserted, deleted, replaced};
 
 use std::alloc::{AllocError, Global};
@@ -66,17 +66,31 @@ impl Bytes {
         self.items.is_empty()
     }
 
+    /// Whether the `len` bytes from `at` on are there.
+    pub fn has_range(&self, at: u64, len: u64) -> bool
+        ensures { result ≡ nat_le (at + len) (length self.now) }
+    {
+        let end = self.len();
+        at <= end && len <= end - at
+    }
+
     /// A copy of the `len` bytes from `at` on.
+    ///
+    /// `AllocError` says that there was no memory for it. A copy of no bytes takes none.
     pub fn read(&self, alloc: Global, at: u64, len: u64) -> Result<Bytes, AllocError>
         requires { at + len ≤ length self.now }
-        ensures { IfOk result (λ copy. copy ≡ part self.now at len) }
+        ensures copy { IfOk result (λ copy. copy ≡ part self.now at len) }
+        ensures memory { OnErr result (0 < len) }
     {
-        let at = at as usize;
-        let items = Vec::from_slice(alloc, &self.items[at..at + len as usize])?;
+        let (at, len) = (at as usize, len as usize);
+        let mut items = Vec::with_capacity(alloc, len)?;
+        items.extend_from_slice(&self.items[at..at + len])?;
         Ok(Bytes { items })
     }
 
     /// Puts bytes at the end.
+    ///
+    /// `AllocError` says that there was no memory for them, and leaves the bytes as they were.
     pub fn append(&mut self, bytes: &[u8]) -> Result<(), AllocError>
         ensures ok { OnOk result (self.new ≡ self.old ++ bytes.now) }
         ensures memory { OnErr result (0 < length bytes.now) }
@@ -85,7 +99,9 @@ impl Bytes {
         self.items.extend_from_slice(bytes)
     }
 
-    /// Puts bytes before the one at `at`.
+    /// Puts bytes before the one at `at`, or at the end where `at` is the length.
+    ///
+    /// `AllocError` says that there was no memory for them, and leaves the bytes as they were.
     pub fn insert(&mut self, at: u64, bytes: &[u8]) -> Result<(), AllocError>
         requires { at ≤ length self.old }
         ensures ok { OnOk result (self.new ≡ inserted self.old at bytes.now) }

@@ -9,6 +9,8 @@ use std::alloc::{AllocError, Global};
 
 impl Payload {
     /// The bytes that the payload stands for. Given bytes are moved, and made ones are made once.
+    ///
+    /// `AllocError` says that there was no memory for them.
     pub fn into_bytes(self, alloc: Global) -> Result<Bytes, AllocError>
         requires { is_long_payload self ≡ false }
         ensures { IfOk result (λ bytes. bytes ≡ payload_bytes self) }

@@ -3,6 +3,7 @@
 /// What became of an edit. After any but `Done` the object is as before.
 #[derive(Clone, Copy, Debug, PartialEq, Eq)]
 pub enum Outcome {
+    /// The edit was made.
     Done,
     /// `Create` met a present object.
     Exists,

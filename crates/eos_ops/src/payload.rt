@@ -10,8 +10,15 @@ use crate::{Bytes, MAX_TRANSFER};
 /// Byte `i` of a made payload is `start + 7*i + i/251` modulo 256, the division rounded down.
 #[derive(Debug, Drop)]
 pub enum Payload {
+    /// These bytes.
     Given(Bytes),
-    Made { len: u64, start: u32 },
+    /// Made bytes, of which no more than `MAX_TRANSFER` can be used.
+    Made {
+        /// How many.
+        len: u64,
+        /// Byte 0 is this modulo 256.
+        start: u32,
+    },
 }
 
 impl Payload {

@@ -61,7 +61,7 @@ impl Port for FilePort {
         self.read = counted(self.read, count);
         let at = s.byte(from, self.page);
         let Ok(()) = self.file.read_exact_at(out, at) else {
-            self.faults = self.faults.saturating_add(1);
+            self.blame();
             return Err(DeviceFault);
         };
         Ok(())
@@ -72,13 +72,13 @@ impl Port for FilePort {
         self.written = counted(self.written, count);
         let at = s.byte(from, self.page);
         let Ok(()) = self.file.write_all_at(bytes, at) else {
-            self.faults = self.faults.saturating_add(1);
+            self.blame();
             return Err(DeviceFault);
         };
         Ok(())
     }
 
     fn blame(&mut self) {
-        self.faults = self.faults.saturating_add(1);
+        self.faults = counted(self.faults, 1);
     }
 }

@@ -7,8 +7,6 @@
 mod file_bay;
 mod file_port;
 mod file_span;
-#[cfg(test)]
-mod tests;
 
 pub use file_bay::FileBay;
 pub use file_port::FilePort;

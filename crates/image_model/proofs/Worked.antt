@@ -1,12 +1,13 @@
 -- A worked image of a small store: 256 bytes a page, one space of 16 pages from page 3 on, threshold 2. Object 0
--- has the three bytes `ABC` on page 3, and its node on page 4. Five damaged images, each with its refusal.
+-- has the three bytes `ABC` on page 3, and its node on page 4. Seven damaged images, each with its refusal.
 use Rattle.std.proofs.Common.{◌≡◌, ℕ, refl, Some, None, List, [], ◌∷◌, ◌++◌, replicate, take}
 use Rattle.geometry_model.specs.Numbers.{Numbers, is_in_range}
 use Rattle.geometry_model.specs.Pages.{place}
+use Rattle.block_model.specs.Directory.{directory_page as directory_bytes}
 use Rattle.eos_ops.specs.declared.plain.Plain.TheVariants.{Absent, Present}
 use Rattle.tree_model.specs.Node.{pair_bytes, head_bytes, node_in, pair_in}
 use Rattle.image_model.specs.Super.{super_bytes, numbers_in}
-use Rattle.image_model.specs.Directory.{directory_bytes, free_bits}
+use Rattle.image_model.specs.Directory.{free_bits}
 use Rattle.image_model.specs.Catalog.{entry_bytes, entry_in}
 use Rattle.image_model.specs.Image.{database_in}
 use Rattle.image_model.specs.Checks.{first_refusal, holds_node}
@@ -47,7 +48,7 @@ unfolding numbers_in
 numbers-read = refl
 
 directory-bytes : directory 14 63 ≡ directory_bytes 256 0 (free_bits small (directory 14 63))
-unfolding directory_bytes free_bits
+unfolding free_bits
 directory-bytes = refl
 
 entry-bytes : entry 2 ≡ entry_bytes 2 (entry_in small 2 (entry 2))
@@ -55,7 +56,7 @@ unfolding entry_bytes entry_in
 entry-bytes = refl
 
 image-good : first_refusal image ≡ None
-unfolding first_refusal numbers_in is_in_range directory_bytes free_bits entry_bytes entry_in place holds_node node_in pair_in pair_bytes head_bytes
+unfolding first_refusal numbers_in is_in_range free_bits entry_bytes entry_in place holds_node node_in pair_in pair_bytes head_bytes
 image-good = refl
 
 image-database : database_in small 2 image ≡ Present (65 ∷ 66 ∷ 67 ∷ []) ∷ replicate 15 Absent
@@ -64,39 +65,39 @@ image-database = refl
 
 -- in version 1 there is no threshold in the entry
 older-good : first_refusal (store (super 1) (entry 0) (directory 14 63) (node 1)) ≡ None
-unfolding first_refusal numbers_in is_in_range directory_bytes free_bits entry_bytes entry_in place holds_node node_in pair_in pair_bytes head_bytes
+unfolding first_refusal numbers_in is_in_range free_bits entry_bytes entry_in place holds_node node_in pair_in pair_bytes head_bytes
 older-good = refl
 
 -- page 3 is free in its directory
 free-page : first_refusal (store (super 2) (entry 2) (directory 15 191) (node 1)) ≡ Some (PageFree 3)
-unfolding first_refusal numbers_in is_in_range directory_bytes free_bits entry_bytes entry_in place holds_node node_in pair_in pair_bytes head_bytes
+unfolding first_refusal numbers_in is_in_range free_bits entry_bytes entry_in place holds_node node_in pair_in pair_bytes head_bytes
 free-page = refl
 
 -- the count isn't that of the bitmap
 wrong-count : first_refusal (store (super 2) (entry 2) (directory 14 191) (node 1)) ≡ Some (BadDirectory 0)
-unfolding first_refusal numbers_in is_in_range directory_bytes free_bits entry_bytes entry_in place holds_node node_in pair_in pair_bytes head_bytes
+unfolding first_refusal numbers_in is_in_range free_bits entry_bytes entry_in place holds_node node_in pair_in pair_bytes head_bytes
 wrong-count = refl
 
 -- page 8 is neither free nor used
 lost-page : first_refusal (store (super 2) (entry 2) (directory 13 59) (node 1)) ≡ Some (PageLost 8)
-unfolding first_refusal numbers_in is_in_range directory_bytes free_bits entry_bytes entry_in place holds_node node_in pair_in pair_bytes head_bytes
+unfolding first_refusal numbers_in is_in_range free_bits entry_bytes entry_in place holds_node node_in pair_in pair_bytes head_bytes
 lost-page = refl
 
 -- the node says 21 pairs
 full-node : first_refusal (store (super 2) (entry 2) (directory 14 63) (node 21)) ≡ Some (BadNode 4)
-unfolding first_refusal numbers_in is_in_range directory_bytes free_bits entry_bytes entry_in place holds_node node_in pair_in pair_bytes head_bytes
+unfolding first_refusal numbers_in is_in_range free_bits entry_bytes entry_in place holds_node node_in pair_in pair_bytes head_bytes
 full-node = refl
 
 -- a byte is missing
 cut-short : first_refusal (take 4863 image) ≡ Some Short
-unfolding first_refusal numbers_in is_in_range directory_bytes free_bits entry_bytes entry_in place holds_node node_in pair_in pair_bytes head_bytes
+unfolding first_refusal numbers_in is_in_range free_bits entry_bytes entry_in place holds_node node_in pair_in pair_bytes head_bytes
 cut-short = refl
 
 -- an unknown version, and a threshold that is more than half of a space
 newer : first_refusal (store (super 3) (entry 2) (directory 14 63) (node 1)) ≡ Some BadVersion
-unfolding first_refusal numbers_in is_in_range directory_bytes free_bits entry_bytes entry_in place holds_node node_in pair_in pair_bytes head_bytes
+unfolding first_refusal numbers_in is_in_range free_bits entry_bytes entry_in place holds_node node_in pair_in pair_bytes head_bytes
 newer = refl
 
 wide-threshold : first_refusal (store (super 2) (entry 9) (directory 14 63) (node 1)) ≡ Some (BadCatalog 0)
-unfolding first_refusal numbers_in is_in_range directory_bytes free_bits entry_bytes entry_in place holds_node node_in pair_in pair_bytes head_bytes
+unfolding first_refusal numbers_in is_in_range free_bits entry_bytes entry_in place holds_node node_in pair_in pair_bytes head_bytes
 wide-threshold = refl

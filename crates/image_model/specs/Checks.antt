@@ -68,10 +68,11 @@ meet n bytes page walk =
     and_then (check (not (is_met walk page)) (PageTwice page) walk) (λ same.
     check (not (is_free_page n bytes page)) (PageFree page) (record { met = page ∷ walk.met; before = walk.before }))
 
--- does the page hold a node?
+-- does the pair stand for some bytes?
 abbrev pub is_some_bytes : Pair → Bool
 is_some_bytes pair = nat_le 1 pair.bytes
 
+-- does the page hold a node?
 unfoldable pub holds_node : ℕ → List ℕ → Bool
 holds_node size page =
     let node = node_in page in

@@ -10,12 +10,13 @@ use Rattle.tree_model.specs.declared.tree.Root.{Root}
 use Rattle.tree_model.specs.Tree.{Pages, IsTreeOf, entries_of, pairs_on}
 use Rattle.tree_model.specs.Content.{content}
 use Rattle.block_model.specs.Block.{has_page}
+use Rattle.block_model.specs.Directory.{directory_page as directory_bytes}
 use Rattle.layout_model.specs.Pack.{Packed}
 use Rattle.layout_model.specs.Levels.{PageNode, pairs_of}
 use Rattle.moment_model.specs.Version.{Version}
 use Rattle.moment_model.specs.Moment.{Slot, Moment, all_committed}
 use Rattle.image_model.specs.Super.{page_in, version_in, IsSuper}
-use Rattle.image_model.specs.Directory.{directory_bytes, free_bits}
+use Rattle.image_model.specs.Directory.{free_bits}
 use Rattle.image_model.specs.Catalog.{Entry, entry_at, entry_in, entry_bytes, is_entry}
 
 -- the pages of these bytes

@@ -51,7 +51,7 @@ segments_on size bytes [] = []
 segments_on size bytes (run ∷ rest) =
     record { bytes = min bytes (run.pages * size); page = run.page } ∷ segments_on size (bytes - run.pages * size) rest
 
--- the entries of the parts: a kept one as it is, a made one on its runs
+-- the entries of the parts: a kept one as it is, a made one on its runs; one for which no runs are left has no entry
 abbrev pub laid_parts : ℕ → List Part → List (List Extent) → List Pair
 laid_parts size [] runs = []
 laid_parts size (Keep pair ∷ rest) runs = pair ∷ laid_parts size rest runs

@@ -77,7 +77,7 @@ site_of f nodes from count fresh =
     if joins f nodes at (length (exchanged nodes at from count fresh)) then joined nodes at else at
 
 -- the numbers of pairs of the nodes that n pairs are cut into: as few nodes as hold them, as even as
--- possible, the larger ones first
+-- possible, the larger ones first; no pair, no node
 abbrev pub sizes_of : ℕ → ℕ → List ℕ
 sizes_of f n =
     let nodes = (n + (f - 1)) / f in
@@ -118,7 +118,7 @@ level_after f nodes from count fresh pages =
     let pairs = exchanged nodes site from count fresh in
     level_with nodes site (on_pages pages (cut_into (sizes_of f (length pairs)) pairs))
 
--- the levels above a new one: none where it has at most one node, which is the root
+-- a new level of at most one node is the highest: that node is the root, and no level stands above it
 abbrev pub is_top : NewLevel → Bool
 is_top level = nat_le (length level.nodes) 1
 

@@ -5,10 +5,11 @@ use Rattle.eos_ops.specs.Objects.{object_of, reply_in, after_in}
 use Rattle.history.specs.Event.{Deed, Opens, Does, Takes, Closes, Nothing}
 use Rattle.machine.specs.Machine.{Slot, Machine, slot_at, seat_at, is_active, IsSession, is_holder, with_slot, with_seat, seats_with}
 
--- an object that session s takes, or has taken, with this working version
+-- an object that session s takes, or has taken, as it is
 abbrev pub taken : ℕ → Slot → Slot
 taken s slot = record { committed = slot.committed; working = slot.working; holder = Some s; stamp = slot.stamp }
 
+-- an object that session s takes, or has taken, with the working version that the act leaves
 abbrev pub worked : ℕ → Act → Slot → Slot
 worked s act slot = record { committed = slot.committed; working = after_in act.command slot.working; holder = Some s; stamp = slot.stamp }
 

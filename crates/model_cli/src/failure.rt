@@ -1,8 +1,5 @@
 //! Why a run ended early.
 
-use edge_io::{ReadFail, SinkFail};
-use plain_plan::Fail;
-
 /// Why a run ended early.
 #[derive(Clone, Copy, Debug)]
 pub enum Failure {
@@ -28,30 +25,5 @@ impl Failure {
             Failure::Long => 7,
             Failure::Memory => 8,
         }
-    }
-}
-
-impl From<ReadFail> for Failure {
-    fn from(fail: ReadFail) -> Failure {
-        match fail {
-            ReadFail::Fault => Failure::Input,
-            ReadFail::TooLong => Failure::Long,
-            ReadFail::Memory => Failure::Memory,
-        }
-    }
-}
-
-impl From<SinkFail> for Failure {
-    fn from(fail: SinkFail) -> Failure {
-        match fail {
-            SinkFail::Fault => Failure::Output,
-            SinkFail::Memory => Failure::Memory,
-        }
-    }
-}
-
-impl From<Fail> for Failure {
-    fn from(_: Fail) -> Failure {
-        Failure::Memory
     }
 }

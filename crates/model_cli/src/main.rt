@@ -5,6 +5,7 @@
 mod failure;
 mod lines;
 mod run;
+mod script;
 mod words;
 
 use edge_io::{StdSink, StdSource};

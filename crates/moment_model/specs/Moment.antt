@@ -54,7 +54,8 @@ all_working n page moment = sum_by (working_uses n page) moment
 abbrev pub is_free : Numbers → ℕ → Moment → Bool
 is_free n page moment = nat_eq (all_committed n page moment) 0 && nat_eq (all_working n page moment) 0
 
--- a committed version uses the page, and no working one: it is locked until that transaction ends
+-- a committed version uses the page, and no working version and no spare does: it is locked until that
+-- transaction ends
 abbrev pub is_locked : Numbers → ℕ → Moment → Bool
 is_locked n page moment = nat_lt 0 (all_committed n page moment) && nat_eq (all_working n page moment) 0
 

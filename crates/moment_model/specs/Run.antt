@@ -1,6 +1,6 @@
 -- A run: how each answered line moves the moment. A list of events has the newest first, as in a history.
-use Rattle.std.specs.Prelude.{◌≡◌, ℕ, zero, suc, ◌+◌, ◌-◌, ◌*◌, ◌%◌, Bool, true, false, Option, Some, None, List, [], ◌∷◌, IsTrue, if◌then◌else◌}
-use Rattle.geometry_model.specs.Numbers.{Numbers, space_pages}
+use Rattle.std.specs.Prelude.{◌≡◌, ℕ, zero, suc, ◌+◌, ◌-◌, ◌*◌, ◌%◌, Bool, true, false, Option, Some, None, List, [], ◌∷◌, length, IsTrue, if◌then◌else◌}
+use Rattle.geometry_model.specs.Numbers.{Numbers, objects, space_pages}
 use Rattle.eos_ops.specs.declared.command.Command.{Command}
 use Rattle.eos_ops.specs.declared.command.Command.TheVariants.{Begin, Commit, Abort, Status}
 use Rattle.eos_ops.specs.declared.edit.Edit.{Edit}
@@ -35,6 +35,8 @@ aborted_by s past moment = changed_where (λ o. holds s o past) undone 0 moment
 abbrev pub answer_to : Numbers → Moment → ℕ → ℕ → Edit → Answer Slot
 answer_to n moment s o edit = edited_slot n (start_of n s) (free_of n moment) (slot_at moment o) edit
 
+-- the slot of an answer. A refusal would leave an absent object: no run comes to it, since an edit that is answered
+-- `ok` was granted what it asks for.
 abbrev pub slot_of : Answer Slot → Slot
 slot_of (Got slot left) = slot
 slot_of (Refused pages) = nothing
@@ -70,18 +72,23 @@ unfoldable pub moment_after : Numbers → List Event → Moment → Event → Mo
 moment_after n past moment e =
     if is_ok_reply e.reply then after_ok n past moment e.session e.command else moment
 
--- an edit that is answered `ok` was granted what it asks for
+-- is the edit one that object o doesn't refuse, as its working version is in the moment?
+abbrev pub is_accepted : Numbers → Moment → ℕ → Edit → Bool
+is_accepted n moment o edit = is_effective (effect_on n edit (slot_at moment o).working)
+
+-- an edit that is answered `ok` was granted what it asks for, and the object doesn't refuse it
 abbrev pub OkToEdit : Numbers → Moment → ℕ → Option ℕ → Option Edit → Type 0
 OkToEdit n moment s None edit = Unit {0}
 OkToEdit n moment s (Some o) None = Unit {0}
-OkToEdit n moment s (Some o) (Some edit) = IsGot (answer_to n moment s o edit)
+OkToEdit n moment s (Some o) (Some edit) =
+    IsTrue (is_accepted n moment o edit) × IsGot (answer_to n moment s o edit)
 
 -- an edit that is answered `nospace` was refused these pages, and the object doesn't refuse it
 abbrev pub NoSpaceToEdit : Numbers → Moment → ℕ → ℕ → Option ℕ → Option Edit → Type 0
 NoSpaceToEdit n moment s pages None edit = ⊥
 NoSpaceToEdit n moment s pages (Some o) None = ⊥
 NoSpaceToEdit n moment s pages (Some o) (Some edit) =
-    IsTrue (is_effective (effect_on n edit (slot_at moment o).working)) × IsRefused pages (answer_to n moment s o edit)
+    IsTrue (is_accepted n moment o edit) × IsRefused pages (answer_to n moment s o edit)
 
 -- the counts that `status` is answered: free pages, locked ones, and the rest
 pub record AreCounts (n : Numbers) (moment : Moment) (free locked held : ℕ) : Type 0 where
@@ -112,7 +119,9 @@ abbrev pub all_aborted : ℕ → List Event → Moment → Moment
 all_aborted zero past moment = moment
 all_aborted (suc sessions) past moment = aborted_by (suc sessions) past (all_aborted sessions past moment)
 
--- A run: the events move the first moment, each agrees, and at the end what is still open is aborted.
+-- A run: the first moment has a slot for each object, the events move it, each agrees, and at the end what is still
+-- open is aborted.
 pub record Run (n : Numbers) (sessions : ℕ) (first : Moment) (events : List Event) (last : Moment) : Type 0 where
+  pub slots : length first ≡ objects n
   pub agree : AllAgree n first events
   pub ends : last ≡ all_aborted sessions events (moment_of n first events)

@@ -52,7 +52,8 @@ impl Pairs {
 
     /// The items as a vector. It takes no memory.
     pub fn into_vec(self) -> Vec<Pair>
-        ensures { result.items ≡ self.items }
+        ensures items { result.items ≡ self.items }
+        ensures room { vec_capacity result ≡ self.room }
     {
         let Pairs { list } = self;
         list

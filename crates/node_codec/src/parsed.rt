@@ -20,9 +20,10 @@ pub struct Node {
 pub struct BadNode;
 
 impl Node {
-    /// A node without pairs, with room for all that a page of `page` bytes can hold.
+    /// A node of level 0 without pairs, with room for all that a page of `page` bytes can hold.
     pub fn prepared(alloc: Global, page: u32) -> Result<Node, AllocError>
         ensures room { IfOk result (λ node. room_of page ≤ node.pairs.room) }
+        ensures level { IfOk result (λ node. node.level ≡ 0) }
         ensures empty { IfOk result (λ node. node.pairs.items ≡ []) }
     {
         let pairs = Pairs::with_room(alloc, page.saturating_sub(8) as usize / 12)?;

@@ -1,9 +1,10 @@
 -- What a cache keeps: nodes by their pages.
 use Rattle.std.specs.Prelude.{◌≡◌, ℕ, ◌≤◌, List, length, Option, IfSome, nat_eq}
 use Rattle.std.specs.Map.{lookup}
+use Rattle.lru.specs.LruCache.{lru_cache, put_entries}
 use Rattle.node_codec.specs.declared.parsed.Node.{Node}
 
--- nodes with their pages, and how many there may be. In which order they stand says nothing
+-- nodes with their pages, the one used last first, and how many there may be
 pub record KeptNodes : Type 0 where
   pub entries : List (ℕ × Node)
   pub capacity : ℕ
@@ -21,6 +22,13 @@ pub record IsNodeOf (a b : Node) : Type 0 where
 pub record KeepsSame (old new : KeptNodes) : Type 0 where
   pub each : (page : ℕ) → kept new page ≡ kept old page
   pub most : new.capacity ≡ old.capacity
+
+-- a copy of the node was put in for its page and stands first; the others stand behind it as they stood, but the
+-- last of them, the one used longest ago, is gone where the page had no node and there was no room for one more
+pub record IsPutIn (old new : KeptNodes) (page : ℕ) (node : Node) : Type 0 where
+  pub copy : Node
+  pub same : IsNodeOf node copy
+  pub entries : new.entries ≡ put_entries nat_eq (lru_cache old.entries old.capacity) page copy
 
 -- each node that is kept has so many pairs at most
 abbrev pub HaveAtMost : ℕ → KeptNodes → Type 0

@@ -15,7 +15,7 @@ use Rattle.machine.specs.Machine.{Machine, no_slot, is_holder}
 use Rattle.machine.proofs.Places.{get_or_map}
 use Rattle.moment_model.specs.Moment.{Slot, Moment, with_slot, slot_at}
 use Rattle.moment_model.specs.Edit.{Effect, Refuses, Stays, Becomes, Changes, effect_on, after_effect, edited_slot, is_effective, settled, undone}
-use Rattle.moment_model.specs.Run.{changed_where, answer_to, slot_of, IsGot, IsRefused, after_edit, after_ok, is_ok_reply, moment_after, OkToEdit, NoSpaceToEdit, Agrees}
+use Rattle.moment_model.specs.Run.{changed_where, answer_to, slot_of, IsGot, IsRefused, after_edit, after_ok, is_accepted, is_ok_reply, moment_after, OkToEdit, NoSpaceToEdit, Agrees}
 use Rattle.plain_moment.specs.Holders.{holder_of, ended_by}
 use Rattle.plain_moment.specs.Stored.{holder_in, HoldsBy, event_of, is_bare}
 
@@ -124,9 +124,9 @@ ok_unedited n moment s None e none = tt
 ok_unedited n moment s (Some o) None none = tt
 ok_unedited n moment s (Some o) (Some e) none = absurd (cc)
 
-pub ok_edited : (n : Numbers) (moment : Moment) (s o : ℕ) (e : Edit) (t : Option ℕ) (u : Option Edit) (slot : Slot) (left : Spaces) → t ≡ Some o → u ≡ Some e → Got slot left ≡ answer_to n moment s o e → OkToEdit n moment s t u
-ok_edited n moment s o e t u slot left on is got =
-    subst (λ x. OkToEdit n moment s x u) (sym on) (subst (λ x. OkToEdit n moment s (Some o) x) (sym is) (subst IsGot got tt))
+pub ok_edited : (n : Numbers) (moment : Moment) (s o : ℕ) (e : Edit) (t : Option ℕ) (u : Option Edit) (slot : Slot) (left : Spaces) → t ≡ Some o → u ≡ Some e → is_accepted n moment o e ≡ true → Got slot left ≡ answer_to n moment s o e → OkToEdit n moment s t u
+ok_edited n moment s o e t u slot left on is accepted got =
+    subst (λ x. OkToEdit n moment s x u) (sym on) (subst (λ x. OkToEdit n moment s (Some o) x) (sym is) (accepted, subst IsGot got tt))
 
 -- what is refused pages is no refusal of the object
 effective_by : (n : Numbers) (start : ℕ) (free : Spaces) (slot : Slot) (effect : Effect) (pages : ℕ) → Refused pages ≡ after_effect n start free slot effect → IsTrue (is_effective effect)

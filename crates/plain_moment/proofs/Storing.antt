@@ -19,9 +19,9 @@ use Rattle.machine.specs.Replies.{IsStep, refused, IsAnswered, is_taking}
 use Rattle.machine.proofs.Replying.{Replies-answers}
 use Rattle.machine.proofs.Sizes.{seats-next}
 use Rattle.moment_model.specs.Moment.{Slot, with_slot}
-use Rattle.moment_model.specs.Run.{answer_to, AreCounts, is_ok_reply}
+use Rattle.moment_model.specs.Run.{answer_to, AreCounts, is_accepted, is_ok_reply}
 use Rattle.plain_moment.specs.Holders.{ended_by}
-use Rattle.plain_moment.specs.Stored.{Stored, IsTied, IsStoreStep, IsServed, IsTaking, taken_store, holder_in, holders_after, let_go, is_bare, is_look, is_memory}
+use Rattle.plain_moment.specs.Stored.{Stored, IsTied, IsStoreStep, IsServed, IsTaking, taken_store, holder_in, holders_after, let_go, is_own, is_bare, is_look, is_memory}
 use Rattle.plain_moment.proofs.Replied.{holders_next, refused_same, refused_deed, looked_free, unlooked_refused, looked_next}
 use Rattle.plain_moment.proofs.Moved.{committed_moved, aborted_moved, begun_moved, unmoved, unedited_moved, edited_moved, agrees_bare, ok_unedited, ok_edited, nospace_agrees}
 
@@ -35,6 +35,26 @@ tied_next w w' s d tied machine holders = record {
   holders = holders ∙ (ap (holders_after s d) tied.holders ∙ (sym (holders_next d w.machine s) ∙ ap (λ m. map holder_in m.slots) (sym machine)));
 }
 
+bare_own : (r : Reply) → IsTrue (is_bare r) → IsTrue (is_own r)
+bare_own reply.Ok bare = refl
+bare_own (reply.Length n) bare = refl
+bare_own (reply.Bytes x) bare = refl
+bare_own (reply.Range n) bare = refl
+bare_own reply.Exists bare = refl
+bare_own reply.Missing bare = refl
+bare_own (reply.NoSpace n) bare = refl
+bare_own reply.Fault bare = cc
+bare_own reply.Busy bare = refl
+bare_own reply.Full bare = refl
+bare_own reply.NoObject bare = refl
+bare_own reply.Memory bare = cc
+bare_own reply.Idle bare = refl
+bare_own reply.Active bare = refl
+bare_own reply.TooLong bare = refl
+bare_own reply.Worn bare = refl
+bare_own (reply.Status f l h) bare = refl
+bare_own reply.Again bare = refl
+
 -- a command on an object that edits nothing
 pub unedited_step : (w w' : Stored) (s o : ℕ) (c : Command) (r : Reply) → IsTied w → 0 < s → s ≤ SESSIONS → object_of c ≡ Some o → edit_of c ≡ None → IsServed w s c r w' → IsStoreStep w s c r w'
 unedited_step w w' s o c r tied low high on none served = record {
@@ -43,6 +63,7 @@ unedited_step w w' s o c r tied low high on none served = record {
   machine = served.step.state;
   moment = λ past by. served.moment ∙ unedited_moved w.numbers s past w.moment c r o on none;
   agrees = agrees_bare w.numbers w.moment s c r served.bare (λ _. ok_unedited w.numbers w.moment s (object_of c) (edit_of c) none);
+  own = bare_own r served.bare;
 }
 
 pub served_tied : (w w' : Stored) (s : ℕ) (c : Command) (r : Reply) → IsTied w → IsServed w s c r w' → IsTied w'
@@ -56,17 +77,19 @@ edited_other w w' s c r tied low high other served = record {
   machine = served.step.state;
   moment = λ past by. served.moment ∙ unmoved w.numbers s past w.moment c r other;
   agrees = agrees_bare w.numbers w.moment s c r served.bare (λ ok. absurd (cc));
+  own = bare_own r served.bare;
 }
 
 -- and `ok` puts the slot in its place
 pub edited_step : (w w' w2 : Stored) (s o : ℕ) (c : Command) (e : Edit) (slot : Slot) (left : Spaces) → IsTied w → 0 < s → s ≤ SESSIONS → object_of c ≡ Some o → edit_of c ≡ Some e →
-    Got slot left ≡ answer_to w.numbers w.moment s o e → IsServed w s c reply.Ok w' → w2 ≡ record w' { moment = with_slot w'.moment o slot } → IsStoreStep w s c reply.Ok w2
-edited_step w w' w2 s o c e slot left tied low high on is got served put = record {
+    is_accepted w.numbers w.moment o e ≡ true → Got slot left ≡ answer_to w.numbers w.moment s o e → IsServed w s c reply.Ok w' → w2 ≡ record w' { moment = with_slot w'.moment o slot } → IsStoreStep w s c reply.Ok w2
+edited_step w w' w2 s o c e slot left tied low high on is accepted got served put = record {
   numbers = ap (λ x. x.numbers) put ∙ served.numbers;
   event = record { session = session_in w s tied low high; reply = Replies-answers w.machine s c reply.Ok served.step.reply };
   machine = ap (λ x. x.machine) put ∙ served.step.state;
   moment = λ past by. ap (λ x. x.moment) put ∙ (ap (λ t. with_slot t o slot) served.moment ∙ edited_moved w.numbers s past w.moment c o e slot left on is got);
-  agrees = ok_edited w.numbers w.moment s o e (object_of c) (edit_of c) slot left on is got;
+  agrees = ok_edited w.numbers w.moment s o e (object_of c) (edit_of c) slot left on is accepted got;
+  own = refl;
 }
 
 pub put_tied : (w w2 : Stored) (o : ℕ) (slot : Slot) → IsTied w → w2 ≡ record w { moment = with_slot w.moment o slot } → IsTied w2
@@ -105,6 +128,7 @@ nospace_step w w' s o c e pages tied low high on is short denied taking =
       machine = ap (λ x. x.machine) taking.1 ∙ ap (next w.machine s) (sym takes);
       moment = λ past by. ap (λ x. x.moment) taking.1 ∙ unmoved w.numbers s past w.moment c (reply.NoSpace pages) refl;
       agrees = nospace_agrees w.numbers w.moment s o c e pages on is denied;
+      own = refl;
     }
   where
     no_status : (d : Command) (p : ℕ) → object_of d ≡ Some p → d ≡ Status → ⊥
@@ -127,6 +151,7 @@ refused_step w w' s o c r tied low high on short bare other taking =
       machine = ap (λ x. x.machine) taking.1 ∙ ap (next w.machine s) (sym (refused_deed w.machine s c c r stands));
       moment = λ past by. ap (λ x. x.moment) taking.1 ∙ unmoved w.numbers s past w.moment c r other;
       agrees = agrees_bare w.numbers w.moment s c r bare (λ ok. absurd (cc));
+      own = bare_own r bare;
     }
 
 pub refused_tied : (w w' : Stored) (s o : ℕ) (r : Reply) → IsTied w → IsTaking w s o (Some r) w' → IsTied w'
@@ -147,6 +172,7 @@ begun_step w w' s r tied low high served = record {
   machine = served.step.state;
   moment = λ past by. served.moment ∙ begun_moved w.numbers s past w.moment r;
   agrees = agrees_bare w.numbers w.moment s Begin r served.bare (λ _. tt);
+  own = bare_own r served.bare;
 }
 
 -- an end that was answered `ok`
@@ -158,6 +184,7 @@ closed_step w w' s true tied low high step numbers holders moment = record {
   machine = step.state;
   moment = λ past by. moment ∙ (ap (λ h. ended_by s true h w.moment) tied.holders ∙ committed_moved w.numbers s past w.machine w.moment by);
   agrees = tt;
+  own = refl;
 }
 closed_step w w' s false tied low high step numbers holders moment = record {
   numbers = numbers;
@@ -165,6 +192,7 @@ closed_step w w' s false tied low high step numbers holders moment = record {
   machine = step.state;
   moment = λ past by. moment ∙ (ap (λ h. ended_by s false h w.moment) tied.holders ∙ aborted_moved w.numbers s past w.machine w.moment by);
   agrees = tt;
+  own = refl;
 }
 
 pub closed_tied : (w w' : Stored) (s : ℕ) (b : Bool) → IsTied w → IsStep w.machine s (if b then Commit else Abort) reply.Ok w'.machine → w'.holders ≡ map (let_go s) w.holders → IsTied w'
@@ -195,6 +223,7 @@ status_step w s free locked held tied low high counts = record {
   machine = refl;
   moment = λ past by. unmoved w.numbers s past w.moment Status (reply.Status free locked held) refl;
   agrees = counts;
+  own = refl;
 }
 
 -- the same of what a call returns, and of a store as its view
@@ -289,9 +318,9 @@ ok_only (reply.Status f l h) ok = cc
 ok_only reply.Again ok = cc
 
 pub edited_put : (w w' w2 : Stored) (s o : ℕ) (c : Command) (e : Edit) (slot : Slot) (left : Spaces) (r : Reply) → IsTied w → 0 < s → s ≤ SESSIONS → object_of c ≡ Some o → edit_of c ≡ Some e →
-    Got slot left ≡ answer_to w.numbers w.moment s o e → IsServed w s c r w' → is_ok_reply r ≡ true → w2 ≡ record w' { moment = with_slot w'.moment o slot } → IsStoreStep w s c r w2
-edited_put w w' w2 s o c e slot left r tied low high on is got served ok put =
+    is_accepted w.numbers w.moment o e ≡ true → Got slot left ≡ answer_to w.numbers w.moment s o e → IsServed w s c r w' → is_ok_reply r ≡ true → w2 ≡ record w' { moment = with_slot w'.moment o slot } → IsStoreStep w s c r w2
+edited_put w w' w2 s o c e slot left r tied low high on is accepted got served ok put =
     subst (λ x. IsStoreStep w s c x w2) (sym (ok_only r ok))
-    (edited_step w w' w2 s o c e slot left tied low high on is got (subst (λ x. IsServed w s c x w') (ok_only r ok) served) put)
+    (edited_step w w' w2 s o c e slot left tied low high on is accepted got (subst (λ x. IsServed w s c x w') (ok_only r ok) served) put)
 
 pub ruleset edited_ties = (put_tied, served_tied, taking_tied, refused_tied)

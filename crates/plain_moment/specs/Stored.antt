@@ -38,14 +38,21 @@ event_of s c r = record { session = s; command = c; reply = r }
 abbrev pub HoldsBy : ℕ → List Event → Machine → Type 0
 HoldsBy s past m = (o : ℕ) → holds s o past ≡ is_holder s (slot_at m o).holder
 
+-- a reply that is neither a fault nor want of memory
+abbrev pub is_own : Reply → Bool
+is_own reply.Fault = false
+is_own reply.Memory = false
+is_own r = true
+
 -- One step: an event of the machine, which moves the machine and the moment, and whose reply agrees with the
--- moment. (After any events whose holders are those of the machine.)
+-- moment and is no fault and no want of memory. (After any events whose holders are those of the machine.)
 pub record IsStoreStep (w : Stored) (s : ℕ) (c : Command) (r : Reply) (w' : Stored) : Type 0 where
   pub numbers : w'.numbers ≡ w.numbers
   pub event : IsEvent w.machine (event_of s c r)
   pub machine : w'.machine ≡ next w.machine s (deed c r)
   pub moment : (past : List Event) → HoldsBy s past w.machine → w'.moment ≡ moment_after w.numbers past w.moment (event_of s c r)
   pub agrees : Agrees w.numbers w.moment s c r
+  pub own : IsTrue (is_own r)
 
 -- the reply of an object that is at hand, or of one that its space or its device failed
 abbrev pub is_taken : Reply → Bool
@@ -68,9 +75,11 @@ is_taken reply.Worn = false
 is_taken (reply.Status f l h) = false
 is_taken reply.Again = false
 
--- a reply that says nothing of the pages
+-- a reply that says nothing of the pages, the device or the memory
 abbrev pub is_bare : Reply → Bool
 is_bare (reply.NoSpace n) = false
+is_bare reply.Fault = false
+is_bare reply.Memory = false
 is_bare (reply.Status f l h) = false
 is_bare r = true
 

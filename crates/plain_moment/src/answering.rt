@@ -2,12 +2,12 @@
 
 ghost use Rattle.std.specs.Prelude.{◌≡◌, ◌<◌, IfOk};
 ghost use Rattle.moment_model.specs.Moment.{slot_at};
-ghost use Rattle.moment_model.specs.Run.{answer_to};
+ghost use Rattle.moment_model.specs.Run.{answer_to, is_accepted};
 ghost use Rattle.plain_layout.specs.Answers.{answered};
 ghost use Rattle.plain_plan.specs.Store.{numbers_of};
 
 use crate::counting::free_of;
-use crate::editing::edited_slot;
+use crate::editing::{edited_slot, effect_on, is_effective};
 use crate::slot::Slot;
 use eos_ops::Edit;
 use plain_layout::Answer;
@@ -40,4 +40,19 @@ pub fn answer_to(
     let free = free_of(alloc, store, moment)?;
     let slot = copy_slot(alloc, moment, object)?;
     edited_slot(alloc, store, start, &free, &slot, edit)
+}
+
+/// Whether the object doesn't refuse the edit.
+pub fn is_accepted(
+    alloc: Global,
+    store: &Store,
+    moment: &[Slot],
+    object: u64,
+    edit: &Edit,
+) -> Result<bool, Fail>
+    ensures { IfOk result (λ is. is ≡ is_accepted (numbers_of store.now) moment.now object edit.now) }
+{
+    let slot = copy_slot(alloc, moment, object)?;
+    let effect = effect_on(alloc, store, edit, slot.working())?;
+    Ok(is_effective(&effect))
 }

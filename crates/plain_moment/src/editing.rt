@@ -1,7 +1,7 @@
 //! An edit of an object, out of these free pages.
 
 ghost use Rattle.std.specs.Prelude.{◌≡◌, IfOk};
-ghost use Rattle.moment_model.specs.Edit.{given_threshold, empty_tree, change_within, effect_on, with_working, after_effect, edited_slot, Changes as changes};
+ghost use Rattle.moment_model.specs.Edit.{given_threshold, empty_tree, change_within, effect_on, is_effective, with_working, after_effect, edited_slot, Changes as changes};
 ghost use Rattle.plain_plan.specs.Store.{numbers_of};
 ghost use Rattle.plain_layout.specs.Answers.{answered};
 ghost use Rattle.plain_moment.specs.Effects.{effect_of};
@@ -90,6 +90,13 @@ pub fn effect_on(
         },
         Some(tree) => effect_on_tree(alloc, store, tree, edit),
     }
+}
+
+/// Whether the effect is no refusal.
+pub fn is_effective(effect: &Effect) -> bool
+    ensures { result ≡ is_effective (effect_of effect.now) }
+{
+    !matches!(effect, Effect::Refuses)
 }
 
 /// The slot with another working version and spare.

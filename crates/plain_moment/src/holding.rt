@@ -75,13 +75,14 @@ pub fn is_ok_reply(reply: &Reply) -> bool
     matches!(reply, Reply::Ok)
 }
 
-/// A reply that says nothing of the pages; another one is given up, and so is want of memory.
+/// A reply that says nothing of the pages and of the device; another one is given up, and so is want of
+/// memory.
 pub fn bare(reply: Reply) -> Result<Reply, Fail>
     ensures same { IfOk result (λ r. r ≡ reply) }
     ensures bare { IfOk result (λ r. IsTrue (is_bare r)) }
 {
     match &reply {
-        Reply::NoSpace(_) | Reply::Status { .. } => Err(Fail::Big),
+        Reply::NoSpace(_) | Reply::Status { .. } | Reply::Fault => Err(Fail::Big),
         Reply::Memory => Err(Fail::Memory),
         _ => Ok(reply),
     }

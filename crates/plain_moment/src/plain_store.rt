@@ -11,12 +11,12 @@ ghost use Rattle.machine.specs.Machine.{fresh as fresh_machine};
 ghost use Rattle.machine.specs.Next.{next};
 ghost use Rattle.machine.specs.Replies.{IsStep, refused};
 ghost use Rattle.moment_model.specs.Moment.{nothing, with_slot};
-ghost use Rattle.moment_model.specs.Run.{answer_to, is_ok_reply};
+ghost use Rattle.moment_model.specs.Run.{answer_to, is_accepted, is_ok_reply};
 ghost use Rattle.plain_layout.specs.Answers.{answered};
 ghost use Rattle.plain_plan.specs.Store.{numbers_of};
 ghost use Rattle.plain_moment.specs.Stored.{IsTied, IsStoreStep, IsServed, IsTaking, is_bare};
 
-use crate::answering::answer_to;
+use crate::answering::{answer_to, is_accepted};
 use crate::command::{edit_of, is_too_long, object_of};
 use crate::counts::counts_of;
 use crate::ending::{ended_by, let_go};
@@ -248,8 +248,12 @@ impl PlainStore {
                 }
             }
             Answer::Got { value: after, .. } => {
+                let accepted = self.is_accepted(object, edit)?;
                 let reply = self.serve(session, object, command)?;
                 if is_ok_reply(&reply) {
+                    if !accepted {
+                        return Err(Fail::Big);
+                    }
                     self.place(object, after);
                     return Ok(reply);
                 }
@@ -263,6 +267,13 @@ impl PlainStore {
         ensures { IfOk result (λ answer. answered (λ after. after) answer ≡ answer_to self.now.numbers self.now.moment session object edit.now) }
     {
         answer_to(self.alloc, &self.store, session, &self.moment, object, edit)
+    }
+
+    /// Whether the object doesn't refuse the edit where the objects stand now.
+    fn is_accepted(&self, object: u64, edit: &Edit) -> Result<bool, Fail>
+        ensures { IfOk result (λ is. is ≡ is_accepted self.now.numbers self.now.moment object edit.now) }
+    {
+        is_accepted(self.alloc, &self.store, &self.moment, object, edit)
     }
 
     /// Puts a slot in the place of an object's.

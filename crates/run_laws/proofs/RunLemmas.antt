@@ -1,8 +1,9 @@
 -- Each answered line keeps a moment sound, where what is held is what the lines say.
-use Rattle.std.proofs.Common.{◌≡◌, ℕ, zero, suc, ◌≤◌, Bool, true, false, ◌&&◌, not, Some, List, [], ◌∷◌, refl, sym, ap, subst, arith, ◌∙◌, inl, inr}
+use Rattle.std.proofs.Common.{◌≡◌, ℕ, zero, suc, ◌≤◌, Bool, true, false, ◌&&◌, not, Option, Some, None, List, [], ◌∷◌, length, refl, sym, ap, subst, arith, ◌∙◌, inl, inr}
 use Rattle.std.specs.Prelude.{if◌then◌else◌, ◌==◌}
+use Rattle.std.proofs.lemmas.List.{length-set}
 use Rattle.std.proofs.lemmas.Bool.{cases_Bool, cases_eq, false≢true, eq-eqb, ne_eqb, or_cases, or_left, or_right, and_parts, and_from, not-true}
-use Rattle.geometry_model.specs.Numbers.{Numbers, IsInRange}
+use Rattle.geometry_model.specs.Numbers.{Numbers, IsInRange, objects}
 use Rattle.eos_ops.specs.declared.act.Act.{Act}
 use Rattle.eos_ops.specs.declared.command.Command.{Command}
 use Rattle.eos_ops.specs.declared.command.Command.TheVariants.{Begin, Create, Destroy, Length, Read, Append, Insert, Delete, Replace, Commit, Abort, Status}
@@ -21,7 +22,7 @@ use Rattle.layout_model.specs.Grants.{Answer}
 use Rattle.layout_model.specs.Grants.Answer.{Got, Refused}
 use Rattle.moment_model.specs.Moment.{Slot, Moment, nothing, slot_at, with_slot, IsSound}
 use Rattle.moment_model.specs.Edit.{settled, undone}
-use Rattle.moment_model.specs.Run.{start_of, committed_by, aborted_by, changed_where, answer_to, slot_of, IsGot, after_ok, is_ok_reply, moment_after, OkToEdit, Agrees, moment_of, AllAgree, all_aborted, Run}
+use Rattle.moment_model.specs.Run.{start_of, committed_by, aborted_by, changed_where, answer_to, slot_of, IsGot, after_edit, after_ok, is_ok_reply, moment_after, OkToEdit, Agrees, moment_of, AllAgree, all_aborted, Run}
 use Rattle.moment_laws.specs.Change.{held_without}
 use Rattle.moment_laws.proofs.EndLemmas.{changed-cases, sound-settled, sound-undone, sound-held_more, sound-all_aborted}
 use Rattle.edit_laws.specs.Laying.{AsksThreshold}
@@ -217,27 +218,27 @@ steady-ok n sessions s (Read o at k) past moment range low high active asks stea
 steady-ok n sessions s (Create o t) past moment range low high active asks steady got =
     let act : Act = record { command = with_bytes (Create o t); reply = reply.Ok } in
     steady-edit n sessions (record { session = s; command = Create o t; reply = reply.Ok }) past moment o (edit.Create t) act range low high
-    (active (edit.Create t) refl) (asks (edit.Create t) refl) refl steady got
+    (active (edit.Create t) refl) (asks (edit.Create t) refl) refl steady got.1
 steady-ok n sessions s (Destroy o) past moment range low high active asks steady got =
     let act : Act = record { command = with_bytes (Destroy o); reply = reply.Ok } in
     steady-edit n sessions (record { session = s; command = Destroy o; reply = reply.Ok }) past moment o (edit.Destroy) act range low high
-    (active (edit.Destroy) refl) (asks (edit.Destroy) refl) refl steady got
+    (active (edit.Destroy) refl) (asks (edit.Destroy) refl) refl steady got.1
 steady-ok n sessions s (Append o p) past moment range low high active asks steady got =
     let act : Act = record { command = with_bytes (Append o p); reply = reply.Ok } in
     steady-edit n sessions (record { session = s; command = Append o p; reply = reply.Ok }) past moment o (edit.Append (payload_bytes p)) act range low high
-    (active (edit.Append (payload_bytes p)) refl) (asks (edit.Append (payload_bytes p)) refl) refl steady got
+    (active (edit.Append (payload_bytes p)) refl) (asks (edit.Append (payload_bytes p)) refl) refl steady got.1
 steady-ok n sessions s (Insert o at p) past moment range low high active asks steady got =
     let act : Act = record { command = with_bytes (Insert o at p); reply = reply.Ok } in
     steady-edit n sessions (record { session = s; command = Insert o at p; reply = reply.Ok }) past moment o (edit.Insert at (payload_bytes p)) act range low high
-    (active (edit.Insert at (payload_bytes p)) refl) (asks (edit.Insert at (payload_bytes p)) refl) refl steady got
+    (active (edit.Insert at (payload_bytes p)) refl) (asks (edit.Insert at (payload_bytes p)) refl) refl steady got.1
 steady-ok n sessions s (Delete o at k) past moment range low high active asks steady got =
     let act : Act = record { command = with_bytes (Delete o at k); reply = reply.Ok } in
     steady-edit n sessions (record { session = s; command = Delete o at k; reply = reply.Ok }) past moment o (edit.Delete at k) act range low high
-    (active (edit.Delete at k) refl) (asks (edit.Delete at k) refl) refl steady got
+    (active (edit.Delete at k) refl) (asks (edit.Delete at k) refl) refl steady got.1
 steady-ok n sessions s (Replace o at p) past moment range low high active asks steady got =
     let act : Act = record { command = with_bytes (Replace o at p); reply = reply.Ok } in
     steady-edit n sessions (record { session = s; command = Replace o at p; reply = reply.Ok }) past moment o (edit.Replace at (payload_bytes p)) act range low high
-    (active (edit.Replace at (payload_bytes p)) refl) (asks (edit.Replace at (payload_bytes p)) refl) refl steady got
+    (active (edit.Replace at (payload_bytes p)) refl) (asks (edit.Replace at (payload_bytes p)) refl) refl steady got.1
 
 -- ---- a run
 
@@ -296,6 +297,55 @@ pub run-sound : (n : Numbers) (sessions : ℕ) (first : Moment) (events : List E
 run-sound n sessions first events range sound tails order agree =
     let steady = steady-run n sessions first events range sound tails order agree in
     (steady.sound, steady.tails)
+
+-- ---- as many slots as objects
+
+changed-length : (test : ℕ → Bool) (change : Slot → Slot) (from : ℕ) (moment : Moment) → length (changed_where test change from moment) ≡ length moment
+changed-length test change from [] = refl
+changed-length test change from (slot ∷ rest) = ap suc (changed-length test change (suc from) rest)
+
+edit-length : (n : Numbers) (moment : Moment) (s : ℕ) (t : Option ℕ) (edit : Option Edit) → length (after_edit n moment s t edit) ≡ length moment
+edit-length n moment s None edit = refl
+edit-length n moment s (Some o) None = refl
+edit-length n moment s (Some o) (Some edit) = length-set moment o (slot_of (answer_to n moment s o edit))
+
+ok-length : (n : Numbers) (past : List Event) (moment : Moment) (s : ℕ) (c : Command) → length (after_ok n past moment s c) ≡ length moment
+ok-length n past moment s Begin = refl
+ok-length n past moment s (Create o t) = edit-length n moment s (object_of (Create o t)) (edit_of (Create o t))
+ok-length n past moment s (Destroy o) = edit-length n moment s (object_of (Destroy o)) (edit_of (Destroy o))
+ok-length n past moment s (Length o) = edit-length n moment s (object_of (Length o)) (edit_of (Length o))
+ok-length n past moment s (Read o at k) = edit-length n moment s (object_of (Read o at k)) (edit_of (Read o at k))
+ok-length n past moment s (Append o p) = edit-length n moment s (object_of (Append o p)) (edit_of (Append o p))
+ok-length n past moment s (Insert o at p) = edit-length n moment s (object_of (Insert o at p)) (edit_of (Insert o at p))
+ok-length n past moment s (Delete o at k) = edit-length n moment s (object_of (Delete o at k)) (edit_of (Delete o at k))
+ok-length n past moment s (Replace o at p) = edit-length n moment s (object_of (Replace o at p)) (edit_of (Replace o at p))
+ok-length n past moment s Commit = changed-length (λ o. holds s o past) settled 0 moment
+ok-length n past moment s Abort = changed-length (λ o. holds s o past) undone 0 moment
+ok-length n past moment s Status = refl
+
+after-length : (n : Numbers) (past : List Event) (moment : Moment) (e : Event) → length (moment_after n past moment e) ≡ length moment
+unfolding moment_after
+after-length n past moment e =
+    elim (cases_Bool (is_ok_reply e.reply)) [
+      | inl ok ↦ ap (λ (b : Bool). length (if b then after_ok n past moment e.session e.command else moment)) ok ∙ ok-length n past moment e.session e.command
+      | inr other ↦ ap (λ (b : Bool). length (if b then after_ok n past moment e.session e.command else moment)) other
+    ]
+
+pub moment-length : (n : Numbers) (first : Moment) (events : List Event) → length (moment_of n first events) ≡ length first
+moment-length n first [] = refl
+moment-length n first (e ∷ past) = after-length n past (moment_of n first past) e ∙ moment-length n first past
+
+aborted-length : (sessions : ℕ) (past : List Event) (moment : Moment) → length (all_aborted sessions past moment) ≡ length moment
+aborted-length zero past moment = refl
+aborted-length (suc sessions) past moment =
+    changed-length (λ o. holds (suc sessions) o past) undone 0 (all_aborted sessions past moment) ∙ aborted-length sessions past moment
+
+-- the last moment of a run has a slot for each object, as the first one has
+pub run-slots : (n : Numbers) (sessions : ℕ) (first last : Moment) (events : List Event) → Run n sessions first events last → length last ≡ objects n
+run-slots n sessions first last events run =
+    ap (λ (m : Moment). length m) run.ends ∙ (aborted-length sessions events (moment_of n first events) ∙ (moment-length n first events ∙ run.slots))
+
+-- ---- the end of a run
 
 both_not : (b : Bool) → (b && not b) ≡ true → false ≡ true
 both_not true both = both

@@ -12,7 +12,8 @@ use Rattle.edit_laws.specs.Laying.{AsksThreshold}
 abbrev pub is_held : ℕ → List Event → ℕ → Bool
 is_held sessions past o = some_upto sessions (λ s. holds s o past)
 
--- an answered line of one of the sessions; an edit that is answered `ok` comes in a transaction that its session has open
+-- An answered line of one of the sessions. An edit that is answered `ok` comes in a transaction that its session has
+-- open, and no edit asks for a threshold of 0.
 pub record IsInOrder (sessions : ℕ) (past : List Event) (e : Event) : Type 0 where
   pub low : 1 ≤ e.session
   pub high : e.session ≤ sessions

@@ -6,4 +6,4 @@
 
 mod runs;
 
-pub use runs::{a_run_ends_sound, a_run_keeps_soundness};
+pub use runs::{a_run_ends_sound, a_run_keeps_a_slot_for_each_object, a_run_keeps_soundness};

@@ -1,7 +1,7 @@
 //! Laws on the moments of a run.
 
-ghost use Rattle.std.specs.Prelude.{ℕ, false, List};
-ghost use Rattle.geometry_model.specs.Numbers.{Numbers, IsInRange};
+ghost use Rattle.std.specs.Prelude.{◌≡◌, ℕ, false, List, length};
+ghost use Rattle.geometry_model.specs.Numbers.{Numbers, IsInRange, objects};
 ghost use Rattle.history.specs.Event.{Event};
 ghost use Rattle.moment_model.specs.Moment.{Moment, IsSound};
 ghost use Rattle.moment_model.specs.Run.{moment_of, AllAgree, Run};
@@ -20,4 +20,9 @@ pub fn a_run_keeps_soundness()
 pub fn a_run_ends_sound()
     ensures { (n : Numbers) (sessions : ℕ) (first last : Moment) (events : List Event) → IsInRange n → IsSound n (λ o. false) first → HaveTails n first →
         AllInOrder sessions events → Run n sessions first events last → IsSound n (λ o. false) last }
+{}
+
+/// The last moment of a run has a slot for each object.
+pub fn a_run_keeps_a_slot_for_each_object()
+    ensures { (n : Numbers) (sessions : ℕ) (first last : Moment) (events : List Event) → Run n sessions first events last → length last ≡ objects n }
 {}

@@ -8,6 +8,7 @@ use Rattle.std.proofs.lemmas.Slice.Eq.{bytes_eq-Decides}
 use Rattle.eos_ops.specs.declared.command.Command.{Command}
 use Rattle.eos_ops.specs.declared.command.Command.TheVariants as command
 use Rattle.eos_ops.specs.declared.payload.Payload.{Payload}
+use Rattle.script_model.specs.declared.limits.TheConstants.{MAX_THRESHOLD}
 use Rattle.script_model.specs.Grammar.{CommandFits, PayloadFits, payload_word, words_of}
 use Rattle.script_text.specs.declared.verb.Verb.{Verb}
 use Rattle.script_text.specs.declared.verb.Verb.TheVariants.{Begin, Create, Destroy, Length, Read, Append, Insert, Delete, Replace, Commit, Abort}
@@ -110,12 +111,12 @@ created-some : (o : ℕ) (ws : List (List ℕ)) (c : Command) → o < 2 ^ 64 →
     → CommandFits c × (codes "create" ∷ decimal o ∷ ws ≡ words_of c)
 created-some o [] c small h = rw (← some-inner (command.Create o None) c h) ((small, tt), refl)
 created-some o (w ∷ ws) c small h =
-    let t = and_then-some (λ t. if nat_le 1 t && nat_le t 8192 then Some (command.Create o (Some t)) else None) (one_number (w ∷ ws)) c h in
-    let within = if-some (nat_le 1 t.0 && nat_le t.0 8192) (Some (command.Create o (Some t.0))) c t.2 in
-    let parts = and_parts (nat_le 1 t.0) (nat_le t.0 8192) within.0 in
+    let t = and_then-some (λ t. if nat_le 1 t && nat_le t MAX_THRESHOLD then Some (command.Create o (Some t)) else None) (one_number (w ∷ ws)) c h in
+    let within = if-some (nat_le 1 t.0 && nat_le t.0 MAX_THRESHOLD) (Some (command.Create o (Some t.0))) c t.2 in
+    let parts = and_parts (nat_le 1 t.0) (nat_le t.0 MAX_THRESHOLD) within.0 in
     let text = one_number-some (w ∷ ws) t.0 t.1 in
     let low : 1 ≤ t.0 = leb-true 1 t.0 parts.0 in
-    let high : t.0 ≤ 8192 = leb-true t.0 8192 parts.1 in
+    let high : t.0 ≤ MAX_THRESHOLD = leb-true t.0 MAX_THRESHOLD parts.1 in
     rw (← some-inner (command.Create o (Some t.0)) c within.1)
     ((small, (low, high)), ap (λ (rest : List (List ℕ)). codes "create" ∷ decimal o ∷ rest) text.1)
 
@@ -194,13 +195,13 @@ place o at p ho ha hp =
     ∙ ap (option_and_then (λ y. option_map (λ z. (o, y, z)) (one_payload (payload_word p ∷ [])))) (number_of-decimal at ha)
     ∙ ap (option_map (λ z. (o, at, z))) (payload_of-word p hp)
 
-create-threshold : (o t : ℕ) → o < 2 ^ 64 → 1 ≤ t → t ≤ 8192 → command_in Create (decimal o ∷ decimal t ∷ []) ≡ Some (command.Create o (Some t))
+create-threshold : (o t : ℕ) → o < 2 ^ 64 → 1 ≤ t → t ≤ MAX_THRESHOLD → command_in Create (decimal o ∷ decimal t ∷ []) ≡ Some (command.Create o (Some t))
 unfolding command_in
 create-threshold o t ho low high =
     let a : nat_le 1 t ≡ true = le-leb 1 t low in
-    let b : nat_le t 8192 ≡ true = le-leb t 8192 high in
+    let b : nat_le t MAX_THRESHOLD ≡ true = le-leb t MAX_THRESHOLD high in
     ap (option_and_then (λ x. created x (decimal t ∷ []))) (number_of-decimal o ho)
-    ∙ ap (option_and_then (λ x. if nat_le 1 x && nat_le x 8192 then Some (command.Create o (Some x)) else None)) (one t (omega arith))
+    ∙ ap (option_and_then (λ x. if nat_le 1 x && nat_le x MAX_THRESHOLD then Some (command.Create o (Some x)) else None)) (one t (omega arith))
     ∙ rw (a, b) refl
 
 pub command_of-words_of : (c : Command) → CommandFits c → command_of (words_of c) ≡ Some c

@@ -11,6 +11,7 @@ use Rattle.eos_ops.specs.declared.command.Command.{Command}
 use Rattle.eos_ops.specs.declared.command.Command.TheVariants as command
 use Rattle.eos_ops.specs.declared.payload.Payload.{Payload}
 use Rattle.eos_ops.specs.declared.payload.Payload.TheVariants.{Given, Made}
+use Rattle.script_model.specs.declared.limits.TheConstants.{MAX_THRESHOLD}
 use Rattle.script_text.specs.declared.verb.Verb.{Verb}
 use Rattle.script_text.specs.declared.verb.Verb.TheVariants.{Begin, Create, Destroy, Length, Read, Append, Insert, Delete, Replace, Commit, Abort}
 use Rattle.script_text.specs.Words.{first_number, if_last, number_of}
@@ -75,7 +76,7 @@ verb_of word =
 abbrev pub created : ℕ → List (List ℕ) → Option Command
 created o [] = Some (command.Create o None)
 created o (w ∷ ws) =
-    option_and_then (λ t. if nat_le 1 t && nat_le t 8192 then Some (command.Create o (Some t)) else None) (one_number (w ∷ ws))
+    option_and_then (λ t. if nat_le 1 t && nat_le t MAX_THRESHOLD then Some (command.Create o (Some t)) else None) (one_number (w ∷ ws))
 
 -- an object, a place and a payload
 abbrev pub placed : List (List ℕ) → Option (ℕ × ℕ × Payload)

@@ -8,7 +8,8 @@ use std::marker::Model;
 /// The most bytes of a draft, and of a call of the sink that a long line takes.
 pub const CAPACITY: usize = 4096;
 
-/// Bytes of a line that are not written yet. It lies on the stack. In contracts it is their list.
+/// Bytes of a line that are not written yet, at most 4096. It lies on the stack. In contracts it is
+/// their list.
 #[derive(Drop)]
 pub struct Draft {
     bytes: [u8; CAPACITY],
@@ -38,7 +39,7 @@ impl Draft {
     }
 
     /// How many bytes there are.
-    pub fn len(&self) -> usize
+    pub(crate) fn len(&self) -> usize
         ensures value { result ≡ length self.now }
         ensures within { length self.now ≤ CAPACITY }
     {
@@ -46,21 +47,21 @@ impl Draft {
     }
 
     /// All bytes.
-    pub fn as_slice(&self) -> &[u8]
+    pub(crate) fn as_slice(&self) -> &[u8]
         ensures { result.now ≡ self.now }
     {
         &self.bytes[..self.len]
     }
 
     /// Forgets all bytes.
-    pub fn clear(&mut self)
+    pub(crate) fn clear(&mut self)
         ensures { self.new ≡ [] }
     {
         self.len = 0;
     }
 
     /// Puts bytes at the end.
-    pub fn push(&mut self, text: &[u8])
+    pub(crate) fn push(&mut self, text: &[u8])
         requires { length self.old + length text.now ≤ CAPACITY }
         ensures text { self.new ≡ self.old ++ text.now }
         ensures len { length self.new ≡ length self.old + length text.now }
@@ -71,7 +72,7 @@ impl Draft {
     }
 
     /// Puts a number at the end, in decimal digits.
-    pub fn push_number(&mut self, number: u64)
+    pub(crate) fn push_number(&mut self, number: u64)
         requires { length self.old + 20 ≤ CAPACITY }
         ensures text { self.new ≡ self.old ++ decimal number }
         ensures len { length self.new ≤ length self.old + 20 }
@@ -81,7 +82,7 @@ impl Draft {
     }
 
     /// Puts bytes at the end, each as two hexadecimal digits.
-    pub fn push_hex(&mut self, bytes: &[u8])
+    pub(crate) fn push_hex(&mut self, bytes: &[u8])
         requires { length self.old + 2 * length bytes.now ≤ CAPACITY }
         ensures text { self.new ≡ self.old ++ encode_lower bytes.now }
     {

@@ -16,11 +16,12 @@ mod reply;
 mod verb;
 mod words;
 
+pub use draft::Draft;
 pub use eos_ops::made_byte;
 pub use laws::a_text_is_one_line;
 pub use line::{LineFail, read_line};
 pub use made::payload;
-pub use reply::{write_no_line, write_reply};
+pub use reply::{write_no_line, write_reply, write_reply_with};
 pub use script_model::Line;
 
 #[cfg(test)]

@@ -12,7 +12,7 @@ use edge_io::{Sink, SinkFail, write_all};
 use eos_ops::Reply;
 
 /// Appends the line of a reply, in one call of the sink where it has at most 4096 bytes. It takes
-/// no memory of its own.
+/// no memory of its own. Whoever writes many replies keeps a draft for `write_reply_with`.
 pub fn write_reply<O: Sink>(session: u32, reply: &Reply, sink: &mut O) -> Result<(), SinkFail>
     ensures all { OnOk result
         (Appends (reply_line session reply.now) (O.written sink.old) (O.written sink.new)) }
@@ -22,11 +22,30 @@ pub fn write_reply<O: Sink>(session: u32, reply: &Reply, sink: &mut O) -> Result
         (result ≡ Err SinkFail.Fault) }
 {
     let mut draft = Draft::new();
+    write_reply_with(&mut draft, session, reply, sink)
+}
+
+/// Appends the line of a reply as `write_reply` does, by a draft that is used again for each reply.
+/// What was in the draft is forgotten, and a short reply costs its own length alone.
+pub fn write_reply_with<O: Sink>(
+    draft: &mut Draft,
+    session: u32,
+    reply: &Reply,
+    sink: &mut O,
+) -> Result<(), SinkFail>
+    ensures all { OnOk result
+        (Appends (reply_line session reply.now) (O.written sink.old) (O.written sink.new)) }
+    ensures part { OnErr result
+        (AppendsPart (reply_line session reply.now) (O.written sink.old) (O.written sink.new)) }
+    ensures cause { HasCause (O.faults sink.old) (O.faults sink.new)
+        (result ≡ Err SinkFail.Fault) }
+{
+    draft.clear();
     draft.push_number(u64::from(session));
     draft.push(b" ");
     draft.push(text_of(reply));
-    push_numbers(&mut draft, reply);
-    write_hex_line(&mut draft, bytes_of(reply), sink)
+    push_numbers(draft, reply);
+    write_hex_line(draft, bytes_of(reply), sink)
 }
 
 /// Appends the answer to a line that is in no form of the grammar.

@@ -1,6 +1,6 @@
 //! What no clause says: that the calls succeed with ample memory, the worked texts, and that a short
 //! reply is one call of the sink.
-use crate::{LineFail, payload, read_line, write_no_line, write_reply};
+use crate::{Draft, LineFail, payload, read_line, write_no_line, write_reply, write_reply_with};
 use edge_io::{MemSink, SinkFail};
 use eos_ops::{Bytes, Payload, Reply};
 use std::test::Fail;
@@ -118,11 +118,15 @@ fn each_reply_is_one_line_and_one_call(rt: HostRuntime) -> Result<(), Fail> {
         ),
         (Reply::Again, b"7 again\n"),
     ];
+    let mut draft = Draft::new();
     for (reply, want) in replies {
         // The second call would fail.
         let mut sink = MemSink::new(rt.alloc(), vec![in rt.alloc(); 2]?);
         assert!(rt; write_reply(7, &reply, &mut sink).is_ok());
         assert_eq!(rt; sink.written(), want);
+        let mut again = MemSink::new(rt.alloc(), vec![in rt.alloc(); 2]?);
+        assert!(rt; write_reply_with(&mut draft, 7, &reply, &mut again).is_ok());
+        assert_eq!(rt; again.written(), want);
     }
     let mut sink = MemSink::new(rt.alloc(), vec![in rt.alloc(); 2]?);
     assert!(rt; write_no_line(&mut sink).is_ok());

@@ -1,10 +1,10 @@
 //! The bytes of segments, from a position on.
 
-ghost use Rattle.std.specs.Prelude.{◌≡◌, ◌+◌, ◌-◌, ◌<◌, ◌≤◌, length, take, drop, min, IsTrue, IsErr, OnOk};
+ghost use Rattle.std.specs.Prelude.{◌≡◌, ℕ, ◌+◌, ◌-◌, ◌^◌, ◌<◌, ◌≤◌, length, take, drop, min, IsTrue, IsErr, OnOk};
 ghost use Rattle.page_port.specs.Counts.{HasCause};
 ghost use Rattle.tree_model.specs.Content.{content, segment_bytes};
 ghost use Rattle.tree_model.specs.Range.{Covers, pairs_of, start_of};
-ghost use Rattle.span_store.specs.Held.{AllSized, bytes_on};
+ghost use Rattle.span_store.specs.Held.{AllSized, bytes_on, has};
 ghost use Rattle.seg_bytes.specs.Segments.{HoldsBytes, HoldsSegments, pages_touched, touched};
 ghost use Rattle.seg_bytes.specs.Moved.{Reads};
 
@@ -37,6 +37,8 @@ pub fn read_bytes<P: Port>(
         (length out.old)) (P.meter port.old) (P.meter port.new) }
     ensures cause { HasCause (P.meter port.old).faults (P.meter port.new).faults (IsErr result) }
 {
+    // The pages of the segments are held, so their numbers lie below this one.
+    let _end = held.end();
     let mut skip = bytes_before(placed, at);
     let mut done = 0;
     for segment in placed {
@@ -80,6 +82,7 @@ fn read_here<P: Port>(
     requires some { 0 < (P.meter port.old).page }
     requires inside { 0 < length out.old → skip + length out.old ≤ pair.bytes }
     requires held { HoldsBytes held.now (P.meter port.old).page pair.page pair.bytes }
+    requires numbers { (q : ℕ) → IsTrue (has held.now q) → q < 2 ^ 32 - 1 }
     requires sized { AllSized P.S.tells (P.meter port.old).page held.now }
     ensures bytes { OnOk result (IsTrue P.S.tells → out.new ≡ take (length out.old)
         (drop skip (segment_bytes (bytes_on held.now) (P.meter port.old).page pair))) }
@@ -90,7 +93,5 @@ fn read_here<P: Port>(
     if out.is_empty() {
         return Ok(());
     }
-    // The pages of the segment are held, so their numbers lie below this one.
-    let _end = held.end();
     read_from(held, port, pair.page, skip, out, scratch)
 }

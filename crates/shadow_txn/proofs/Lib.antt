@@ -1,8 +1,8 @@
 mod ActLemmas
-mod BenchLemmas
 mod EndingLemmas
 mod HalfwayLemmas
 pub mod HeldLemmas
 mod LettingGoLemmas
 mod ServingLemmas
 mod TakingLemmas
+mod TestSessionLemmas

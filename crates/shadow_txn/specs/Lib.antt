@@ -1,6 +1,7 @@
 pub mod Acts
 pub mod Ending
 pub mod Held
+pub mod Memory
 pub mod Objects
 pub mod Replies
 pub mod Serving

@@ -33,13 +33,22 @@ impl<H: Annals> Txn<H> {
         ensures stamp { result ≡ end_stamp (λ x. H.last x.annals) self.old }
         ensures within { result ≤ 2 ^ 62 }
         ensures txn { self.new ≡ ended self.old result }
-        ensures shelf { IsEnding (HasEnded H.told H.last result self.old.session self.old.number true) self.old.held (X.shelving shelf.old) (X.shelving shelf.new) }
+        ensures shelf { IsEnding
+            (HasEnded H.told H.last result self.old.session self.old.number true) self.old.held
+            (X.shelving shelf.old) (X.shelving shelf.new) }
 
         // The end stands in the annals of each object with the acts on it.
-        ensures ends { HaveEnds H.told (end_with result self.old.session self.old.number true) self.old.held (X.shelving shelf.new) }
-        ensures log { (X.shelving shelf.new).log ≡ option_map (with_puts (made_ends (X.shelving shelf.old).out (end_with result self.old.session self.old.number true) self.old.held)) (X.shelving shelf.old).log }
+        ensures ends { HaveEnds H.told
+            (end_with result self.old.session self.old.number true) self.old.held
+            (X.shelving shelf.new) }
+        ensures log { (X.shelving shelf.new).log ≡ option_map
+            (with_puts
+            (made_ends (X.shelving shelf.old).out
+            (end_with result self.old.session self.old.number true) self.old.held))
+            (X.shelving shelf.old).log }
         ensures serves { Serves H.told H.last self.new (X.shelving shelf.new) }
-        ensures under { (t : Terms) → Agree H.tells H.told t self.old.held → X.under shelf.old t → X.under shelf.new t }
+        ensures under { (t : Terms) → Agree H.tells H.told t self.old.held → X.under shelf.old t
+            → X.under shelf.new t }
     {
         self.close(shelf, true)
     }
@@ -53,11 +62,20 @@ impl<H: Annals> Txn<H> {
         ensures stamp { result ≡ end_stamp (λ x. H.last x.annals) self.old }
         ensures within { result ≤ 2 ^ 62 }
         ensures txn { self.new ≡ ended self.old result }
-        ensures shelf { IsEnding (HasEnded H.told H.last result self.old.session self.old.number false) self.old.held (X.shelving shelf.old) (X.shelving shelf.new) }
-        ensures ends { HaveEnds H.told (end_with result self.old.session self.old.number false) self.old.held (X.shelving shelf.new) }
-        ensures log { (X.shelving shelf.new).log ≡ option_map (with_puts (made_ends (X.shelving shelf.old).out (end_with result self.old.session self.old.number false) self.old.held)) (X.shelving shelf.old).log }
+        ensures shelf { IsEnding
+            (HasEnded H.told H.last result self.old.session self.old.number false) self.old.held
+            (X.shelving shelf.old) (X.shelving shelf.new) }
+        ensures ends { HaveEnds H.told
+            (end_with result self.old.session self.old.number false) self.old.held
+            (X.shelving shelf.new) }
+        ensures log { (X.shelving shelf.new).log ≡ option_map
+            (with_puts
+            (made_ends (X.shelving shelf.old).out
+            (end_with result self.old.session self.old.number false) self.old.held))
+            (X.shelving shelf.old).log }
         ensures serves { Serves H.told H.last self.new (X.shelving shelf.new) }
-        ensures under { (t : Terms) → Agree H.tells H.told t self.old.held → X.under shelf.old t → X.under shelf.new t }
+        ensures under { (t : Terms) → Agree H.tells H.told t self.old.held → X.under shelf.old t
+            → X.under shelf.new t }
     {
         self.close(shelf, false)
     }
@@ -70,11 +88,20 @@ impl<H: Annals> Txn<H> {
         ensures stamp { result ≡ end_stamp (λ x. H.last x.annals) self.old }
         ensures within { result ≤ 2 ^ 62 }
         ensures txn { self.new ≡ ended self.old result }
-        ensures shelf { IsEnding (HasEnded H.told H.last result self.old.session self.old.number committed) self.old.held (X.shelving shelf.old) (X.shelving shelf.new) }
-        ensures ends { HaveEnds H.told (end_with result self.old.session self.old.number committed) self.old.held (X.shelving shelf.new) }
-        ensures log { (X.shelving shelf.new).log ≡ option_map (with_puts (made_ends (X.shelving shelf.old).out (end_with result self.old.session self.old.number committed) self.old.held)) (X.shelving shelf.old).log }
+        ensures shelf { IsEnding
+            (HasEnded H.told H.last result self.old.session self.old.number committed) self.old.held
+            (X.shelving shelf.old) (X.shelving shelf.new) }
+        ensures ends { HaveEnds H.told
+            (end_with result self.old.session self.old.number committed) self.old.held
+            (X.shelving shelf.new) }
+        ensures log { (X.shelving shelf.new).log ≡ option_map
+            (with_puts
+            (made_ends (X.shelving shelf.old).out
+            (end_with result self.old.session self.old.number committed) self.old.held))
+            (X.shelving shelf.old).log }
         ensures serves { Serves H.told H.last self.new (X.shelving shelf.new) }
-        ensures under { (t : Terms) → Agree H.tells H.told t self.old.held → X.under shelf.old t → X.under shelf.new t }
+        ensures under { (t : Terms) → Agree H.tells H.told t self.old.held → X.under shelf.old t
+            → X.under shelf.new t }
     {
         let stamp = next_stamp(self.stamp, &self.held);
         let closing = Closing {
@@ -111,17 +138,28 @@ fn put_all<H: Annals, X: Shelf<PlainObject<H>>>(
     closing: Closing,
 )
     requires within { closing.stamp ≤ 2 ^ 62 }
-    requires each { All (CanEnd H.tells H.told H.last H.spare closing.stamp (X.shelving shelf.old)) held.old.items }
+    requires each { All (CanEnd H.tells H.told H.last H.spare closing.stamp (X.shelving shelf.old))
+        held.old.items }
     requires may { MayEnd closing.stamp closing.session closing.number (X.shelving shelf.old) }
     requires distinct { AreDistinct held.old.items }
-    requires terms { (t : Terms) × X.under shelf.old t × (t.frame ≡ []) × AreLegal H.told t held.old.items }
+    requires terms { (t : Terms) × X.under shelf.old t × (t.frame ≡ [])
+        × AreLegal H.told t held.old.items }
     ensures none { held.new.items ≡ [] }
     ensures capacity { vec_capacity held.new ≡ vec_capacity held.old }
-    ensures shelf { IsEnding (HasEnded H.told H.last closing.stamp closing.session closing.number closing.committed) held.old.items (X.shelving shelf.old) (X.shelving shelf.new) }
-    ensures ends { HaveEnds H.told (end_with closing.stamp closing.session closing.number closing.committed) held.old.items (X.shelving shelf.new) }
-    ensures log { (X.shelving shelf.new).log ≡ option_map (with_puts (made_ends (X.shelving shelf.old).out (end_with closing.stamp closing.session closing.number closing.committed) held.old.items)) (X.shelving shelf.old).log }
+    ensures shelf { IsEnding
+        (HasEnded H.told H.last closing.stamp closing.session closing.number closing.committed)
+        held.old.items (X.shelving shelf.old) (X.shelving shelf.new) }
+    ensures ends { HaveEnds H.told
+        (end_with closing.stamp closing.session closing.number closing.committed) held.old.items
+        (X.shelving shelf.new) }
+    ensures log { (X.shelving shelf.new).log ≡ option_map
+        (with_puts
+        (made_ends (X.shelving shelf.old).out
+        (end_with closing.stamp closing.session closing.number closing.committed)
+        held.old.items)) (X.shelving shelf.old).log }
     ensures may { MayEnd closing.stamp closing.session closing.number (X.shelving shelf.new) }
-    ensures under { (t : Terms) → t.frame ≡ [] → AreLegal H.told t held.old.items → X.under shelf.old t → X.under shelf.new t }
+    ensures under { (t : Terms) → t.frame ≡ [] → AreLegal H.told t held.old.items
+        → X.under shelf.old t → X.under shelf.new t }
 {
     'puts: while let Some(one) = held.pop() {
         put_one(one, shelf, closing);
@@ -137,10 +175,15 @@ fn put_one<H: Annals, X: Shelf<PlainObject<H>>>(
     requires within { closing.stamp ≤ 2 ^ 62 }
     requires can { CanEnd H.tells H.told H.last H.spare closing.stamp (X.shelving shelf.old) one }
     requires may { MayEnd closing.stamp closing.session closing.number (X.shelving shelf.old) }
-    requires terms { (t : Terms) × X.under shelf.old t × (t.frame ≡ []) × IsLegalObject H.told (slice_index_or t.opened one.number Plain.Absent) one.object }
-    ensures home { GoesHome H.told H.last (end_with closing.stamp closing.session closing.number closing.committed one.acts) one.number one.object (X.shelving shelf.old) (X.shelving shelf.new) }
+    requires terms { (t : Terms) × X.under shelf.old t × (t.frame ≡ [])
+        × IsLegalObject H.told (slice_index_or t.opened one.number Plain.Absent) one.object }
+    ensures home { GoesHome H.told H.last
+        (end_with closing.stamp closing.session closing.number closing.committed one.acts)
+        one.number one.object (X.shelving shelf.old) (X.shelving shelf.new) }
     ensures may { MayEnd closing.stamp closing.session closing.number (X.shelving shelf.new) }
-    ensures under { (t : Terms) → t.frame ≡ [] → IsLegalObject H.told (slice_index_or t.opened one.number Plain.Absent) one.object → X.under shelf.old t → X.under shelf.new t }
+    ensures under { (t : Terms) → t.frame ≡ []
+        → IsLegalObject H.told (slice_index_or t.opened one.number Plain.Absent) one.object
+        → X.under shelf.old t → X.under shelf.new t }
 {
     let Held {
         number,
@@ -156,7 +199,9 @@ fn end_object<H: Annals>(object: &mut PlainObject<H>, acts: Acts, closing: Closi
     requires within { closing.stamp ≤ 2 ^ 62 }
     requires room { 1 ≤ H.spare object.old.annals }
     requires above { H.last object.old.annals < closing.stamp }
-    ensures { HasGot H.told H.last (end_with closing.stamp closing.session closing.number closing.committed acts) object.old object.new }
+    ensures { HasGot H.told H.last
+        (end_with closing.stamp closing.session closing.number closing.committed acts) object.old
+        object.new }
 {
     object.decide(closing.committed);
     object.annals.append_end(End {

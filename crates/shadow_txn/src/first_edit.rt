@@ -2,55 +2,19 @@
 //!
 //! The copy is made in one piece, with room for just the edited bytes.
 
-ghost use Rattle.std.specs.Prelude.{◌≡◌, ℕ, ◌+◌, ◌≤◌, List, ◌++◌, length, take, drop, IfOk};
+ghost use Rattle.std.specs.Prelude.{◌≡◌, ◌+◌, ◌<◌, ◌≤◌, ◌++◌, length, take, drop, IfOk, OnErr};
 ghost use Rattle.eos_ops.specs.declared.outcome.Outcome.TheVariants.{Done};
 ghost use Rattle.eos_ops.specs.Edits.{outcome_in, edited};
+ghost use Rattle.shadow_txn.specs.Memory.{IsFilled};
 
-use eos_ops::{Bytes, Edit, Outcome, Plain};
+use eos_ops::{Bytes, Edit, Plain};
 use std::alloc::{AllocError, Global};
-
-/// What becomes of an edit. It looks only.
-pub(crate) fn outcome_of(edit: &Edit, object: &Plain) -> Outcome
-    ensures { result ≡ outcome_in edit.now object.now }
-{
-    match object {
-        Plain::Absent => outcome_of_absent(edit),
-        Plain::Present(bytes) => outcome_within(edit, bytes.len()),
-    }
-}
-
-/// What becomes of an edit of an absent object.
-fn outcome_of_absent(edit: &Edit) -> Outcome
-    ensures { result ≡ outcome_in edit.now Plain.Absent }
-{
-    match edit {
-        Edit::Create { .. } => Outcome::Done,
-        _ => Outcome::Missing,
-    }
-}
-
-/// What becomes of an edit of an object of so many bytes.
-fn outcome_within(edit: &Edit, len: u64) -> Outcome
-    ensures { (x : List ℕ) → length x ≡ len → result ≡ outcome_in edit.now (Plain.Present x) }
-{
-    let fits = match edit {
-        Edit::Create { .. } => return Outcome::Exists,
-        Edit::Destroy | Edit::Append(_) => true,
-        Edit::Insert { at, .. } => *at <= len,
-        Edit::Delete { at, len: n } => *n <= len && *at <= len - *n,
-        Edit::Replace { at, bytes } => bytes.len() <= len && *at <= len - bytes.len(),
-    };
-    if fits {
-        Outcome::Done
-    } else {
-        Outcome::Range(len)
-    }
-}
 
 /// The edited object as a new one.
 pub(crate) fn edited_copy(alloc: Global, edit: &Edit, object: &Plain) -> Result<Plain, AllocError>
     requires { outcome_in edit.now object.now ≡ Done }
-    ensures { IfOk result (λ copy. copy ≡ edited edit.now object.now) }
+    ensures copy { IfOk result (λ copy. copy ≡ edited edit.now object.now) }
+    ensures memory { OnErr result (IsFilled (edited edit.now object.now)) }
 {
     let Plain::Present(bytes) = object else {
         return Ok(Plain::Present(Bytes::new(alloc)));
@@ -78,8 +42,10 @@ fn spliced(
     put: &[u8],
 ) -> Result<Bytes, AllocError>
     requires { at + cut ≤ length bytes.now }
-    ensures { IfOk result
+    ensures copy { IfOk result
         (λ copy. copy ≡ take at bytes.now ++ put.now ++ drop (at + cut) bytes.now) }
+    ensures memory { OnErr result
+        (0 < length (take at bytes.now ++ put.now ++ drop (at + cut) bytes.now)) }
 {
     let mut items = Vec::with_capacity(alloc, bytes.len() - cut + put.len())?;
     items.extend_from_slice(&bytes[..at])?;

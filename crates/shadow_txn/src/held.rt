@@ -8,8 +8,11 @@ use eos_ops::Acts;
 /// An object with its number, and what the transaction did to it where its annals keep that.
 #[derive(Debug, Drop)]
 pub struct Held<T> {
+    /// Which object it is on its shelf, from 0 on.
     pub number: u32,
+    /// The object, which the transaction owns meanwhile.
     pub object: T,
+    /// What was done to it, in order. There are none where its annals keep none.
     pub acts: Acts,
 }
 

@@ -22,20 +22,31 @@ impl<H: Annals> Txn<H> {
         requires open { self.old.is_open ≡ true }
         requires serves { Serves H.told H.last self.old (X.shelving shelf.old) }
         requires terms { (t : Terms) × X.under shelf.old t }
-        ensures held { IsSome (object_in o self.old.held) → IsOk result × (self.new ≡ self.old) × (X.shelving shelf.new ≡ X.shelving shelf.old) }
-        ensures ok { OnOk result (object_in o self.old.held ≡ None → Holds H.told H.last H.spare o self.old self.new (X.shelving shelf.old) (X.shelving shelf.new)) }
+        ensures held { IsSome (object_in o self.old.held) → IsOk result × (self.new ≡ self.old)
+            × (X.shelving shelf.new ≡ X.shelving shelf.old) }
+        ensures ok { OnOk result
+            (object_in o self.old.held ≡ None
+            → Holds H.told H.last H.spare o self.old self.new (X.shelving shelf.old)
+            (X.shelving shelf.new)) }
 
         // The refusals, in this order. After each of them nothing is held that wasn't.
-        ensures no_object { (result ≡ Err HoldFail.NoObject) ↔ ((object_in o self.old.held ≡ None) × (self.old.objects ≤ o)) }
-        ensures full { (result ≡ Err HoldFail.Full) ↔ ((object_in o self.old.held ≡ None) × (o < self.old.objects) × (length self.old.held ≡ MAX_HELD)) }
-        ensures busy { IfSome (X.shelving shelf.old).home (λ xs. (result ≡ Err HoldFail.Busy) ↔ (CanAsk o self.old × (slice_get xs o ≡ Some None))) }
+        ensures no_object { (result ≡ Err HoldFail.NoObject)
+            ↔ ((object_in o self.old.held ≡ None) × (self.old.objects ≤ o)) }
+        ensures full { (result ≡ Err HoldFail.Full)
+            ↔ ((object_in o self.old.held ≡ None) × (o < self.old.objects)
+            × (length self.old.held ≡ MAX_HELD)) }
+        ensures busy { IfSome (X.shelving shelf.old).home
+            (λ xs. (result ≡ Err HoldFail.Busy)
+            ↔ (CanAsk o self.old × (slice_get xs o ≡ Some None))) }
         ensures err { OnErr result (self.new ≡ self.old) }
-        ensures left { IfErr result (λ fail. Leaves H.told H.last fail o (X.shelving shelf.old) (X.shelving shelf.new)) }
+        ensures left { IfErr result
+            (λ fail. Leaves H.told H.last fail o (X.shelving shelf.old) (X.shelving shelf.new)) }
         ensures serves { Serves H.told H.last self.new (X.shelving shelf.new) }
         ensures under { (t : Terms) → X.under shelf.old t → X.under shelf.new t }
 
         // What comes from the shelf keeps its terms.
-        ensures agree { (t : Terms) → X.under shelf.old t → Agree H.tells H.told t self.old.held → Agree H.tells H.told t self.new.held }
+        ensures agree { (t : Terms) → X.under shelf.old t → Agree H.tells H.told t self.old.held
+            → Agree H.tells H.told t self.new.held }
     {
         if self.holds(o) {
             return Ok(());
@@ -52,9 +63,11 @@ impl<H: Annals> Txn<H> {
 
     /// The number of an object that may be asked for.
     fn admit(&self, o: u64) -> Result<u32, HoldFail>
-        ensures ok { IfOk result (λ number. (number ≡ o) × (o < self.now.objects) × (length self.now.held < MAX_HELD)) }
+        ensures ok { IfOk result
+            (λ number. (number ≡ o) × (o < self.now.objects) × (length self.now.held < MAX_HELD)) }
         ensures no_object { (result ≡ Err HoldFail.NoObject) ↔ (self.now.objects ≤ o) }
-        ensures full { (result ≡ Err HoldFail.Full) ↔ ((o < self.now.objects) × (length self.now.held ≡ MAX_HELD)) }
+        ensures full { (result ≡ Err HoldFail.Full)
+            ↔ ((o < self.now.objects) × (length self.now.held ≡ MAX_HELD)) }
         ensures err { IfErr result (λ fail. (fail ≡ HoldFail.NoObject) ⊎ (fail ≡ HoldFail.Full)) }
     {
         if o >= u64::from(self.objects) {
@@ -75,10 +88,13 @@ impl<H: Annals> Txn<H> {
         requires serves { Serves H.told H.last self.old (X.shelving shelf.old) }
         requires terms { (t : Terms) × X.under shelf.old t × Agree H.tells H.told t self.old.held }
         ensures txn { self.new ≡ holding self.old (without o self.old.held) }
-        ensures put { IfSome (object_in o self.old.held) (λ x. IsPut (H.told x.annals) o x (X.shelving shelf.old) (X.shelving shelf.new)) }
+        ensures put { IfSome (object_in o self.old.held)
+            (λ x. IsPut (H.told x.annals) o x (X.shelving shelf.old) (X.shelving shelf.new)) }
         ensures serves { Serves H.told H.last self.new (X.shelving shelf.new) }
-        ensures under { (t : Terms) → Agree H.tells H.told t self.old.held → X.under shelf.old t → X.under shelf.new t }
-        ensures agree { (t : Terms) → Agree H.tells H.told t self.old.held → Agree H.tells H.told t self.new.held }
+        ensures under { (t : Terms) → Agree H.tells H.told t self.old.held → X.under shelf.old t
+            → X.under shelf.new t }
+        ensures agree { (t : Terms) → Agree H.tells H.told t self.old.held
+            → Agree H.tells H.told t self.new.held }
     {
         let Some(i) = place_of(&self.held, o) else {
             unreachable!()
@@ -94,14 +110,21 @@ fn take_ready<H: Annals, X: Shelf<PlainObject<H>>>(
     o: u32,
 ) -> Result<PlainObject<H>, HoldFail>
     requires number { o < (X.shelving shelf.old).objects }
-    requires free { IfSome (X.shelving shelf.old).session (λ _. (X.shelving shelf.old).out o ≡ None) }
+    requires free { IfSome (X.shelving shelf.old).session
+        (λ _. (X.shelving shelf.old).out o ≡ None) }
     requires terms { (t : Terms) × X.under shelf.old t }
-    ensures ok { IfOk result (λ object. IsTaken H.told H.last H.spare o object (X.shelving shelf.old) (X.shelving shelf.new)) }
-    ensures err { IfErr result (λ fail. Leaves H.told H.last fail o (X.shelving shelf.old) (X.shelving shelf.new)) }
+    ensures ok { IfOk result
+        (λ object. IsTaken H.told H.last H.spare o object (X.shelving shelf.old)
+        (X.shelving shelf.new)) }
+    ensures err { IfErr result
+        (λ fail. Leaves H.told H.last fail o (X.shelving shelf.old) (X.shelving shelf.new)) }
     ensures asked { IfErr result (λ fail. (fail ≢ HoldFail.NoObject) × (fail ≢ HoldFail.Full)) }
-    ensures exact { IfSome (X.shelving shelf.old).home (λ xs. (result ≡ Err HoldFail.Busy) ↔ (slice_get xs o ≡ Some None)) }
+    ensures exact { IfSome (X.shelving shelf.old).home
+        (λ xs. (result ≡ Err HoldFail.Busy) ↔ (slice_get xs o ≡ Some None)) }
     ensures under { (t : Terms) → X.under shelf.old t → X.under shelf.new t }
-    ensures legal { IfOk result (λ object. (t : Terms) → X.under shelf.old t → IsLegalObject H.told (slice_index_or t.opened o Plain.Absent) object) }
+    ensures legal { IfOk result
+        (λ object. (t : Terms) → X.under shelf.old t
+        → IsLegalObject H.told (slice_index_or t.opened o Plain.Absent) object) }
 {
     let Ok(mut object) = shelf.take(o) else {
         return Err(HoldFail::Busy);

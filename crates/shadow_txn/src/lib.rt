@@ -8,8 +8,6 @@
 
 mod act;
 mod annals_room;
-#[cfg(test)]
-mod bench;
 mod end;
 mod fails;
 mod first_edit;
@@ -18,6 +16,8 @@ mod hold;
 mod noting;
 mod plain_object;
 mod reply;
+#[cfg(test)]
+mod test_session;
 #[cfg(test)]
 mod tests;
 mod txn;

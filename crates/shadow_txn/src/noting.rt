@@ -1,11 +1,12 @@
 //! Commands on one held object, and the acts that they are where its annals keep acts.
 
-ghost use Rattle.std.specs.Prelude.{◌≡◌, ◌<◌, Ok, Err, Some, IfOk, OnOk, OnErr, IsTrue, vec_len, vec_capacity};
+ghost use Rattle.std.specs.Prelude.{◌≡◌, ◌<◌, Ok, Err, Some, false, IfOk, OnOk, OnErr, IsTrue, vec_len, vec_capacity};
 ghost use Rattle.eos_ops.specs.declared.command.Command.TheVariants as command;
 ghost use Rattle.eos_ops.specs.Edits.{outcome_in};
 ghost use Rattle.eos_ops.specs.Objects.{object_of, with_bytes, length_in, read_in, reply_of};
 ghost use Rattle.shadow_txn.specs.Acts.{edit_command, noted, IsLed};
 ghost use Rattle.shadow_txn.specs.Held.{done_to};
+ghost use Rattle.shadow_txn.specs.Memory.{HasBytes, WantsMemory};
 ghost use Rattle.shadow_txn.specs.Objects.{working_of, edited_object};
 ghost use Rattle.shadow_txn.specs.Replies.{bytes_reply, length_reply};
 
@@ -18,9 +19,11 @@ use std::mem;
 impl<H: Annals> Held<PlainObject<H>> {
     /// The length of the object. It takes memory only for its act.
     pub(crate) fn length(&mut self) -> Result<u64, TxnFail>
-        ensures reply { (result ≡ Err TxnFail.Memory → ⊥) → length_reply result ≡ length_in (working_of self.old.object) }
+        ensures reply { (result ≡ Err TxnFail.Memory → ⊥)
+            → length_reply result ≡ length_in (working_of self.old.object) }
         ensures memory { result ≡ Err TxnFail.Memory → IsTrue H.tells }
-        ensures same { self.new ≡ done_to self.old self.old.object (noted H.tells (command.Length self.old.number) (length_reply result)) }
+        ensures same { self.new ≡ done_to self.old self.old.object
+            (noted H.tells (command.Length self.old.number) (length_reply result)) }
     {
         let answer = self.object.length();
         let command = Command::Length {
@@ -32,10 +35,14 @@ impl<H: Annals> Held<PlainObject<H>> {
         answer
     }
 
-    /// The `len` bytes of the object from `at` on.
+    /// The `len` bytes of the object from `at` on. It takes memory for them and for its act.
     pub(crate) fn read(&mut self, alloc: Global, at: u64, len: u64) -> Result<Bytes, TxnFail>
-        ensures reply { (result ≡ Err TxnFail.Memory → ⊥) → bytes_reply result ≡ read_in at len (working_of self.old.object) }
-        ensures same { self.new ≡ done_to self.old self.old.object (noted H.tells (command.Read self.old.number at len) (bytes_reply result)) }
+        ensures reply { (result ≡ Err TxnFail.Memory → ⊥)
+            → bytes_reply result ≡ read_in at len (working_of self.old.object) }
+        ensures memory { result ≡ Err TxnFail.Memory → H.tells ≡ false
+            → HasBytes (read_in at len (working_of self.old.object)) }
+        ensures same { self.new ≡ done_to self.old self.old.object
+            (noted H.tells (command.Read self.old.number at len) (bytes_reply result)) }
     {
         let answer = self.object.read(alloc, at, len);
         if !self.object.annals.keeps() {
@@ -57,9 +64,16 @@ impl<H: Annals> Held<PlainObject<H>> {
 
     /// Edits the working version. The room for the act is made first.
     pub(crate) fn change(&mut self, alloc: Global, edit: &Edit) -> Result<Outcome, AllocError>
-        ensures outcome { IfOk result (λ outcome. outcome ≡ outcome_in edit.now (working_of self.old.object)) }
-        ensures done { result ≡ Ok Outcome.Done → self.new ≡ done_to self.old (edited_object edit.now self.old.object) (noted H.tells (edit_command self.old.number edit.now) (reply_of Outcome.Done)) }
-        ensures refused { IfOk result (λ outcome. (outcome ≡ Outcome.Done → ⊥) → self.new ≡ done_to self.old self.old.object (noted H.tells (edit_command self.old.number edit.now) (reply_of outcome))) }
+        ensures outcome { IfOk result
+            (λ outcome. outcome ≡ outcome_in edit.now (working_of self.old.object)) }
+        ensures done { result ≡ Ok Outcome.Done
+            → self.new ≡ done_to self.old (edited_object edit.now self.old.object)
+            (noted H.tells (edit_command self.old.number edit.now) (reply_of Outcome.Done)) }
+        ensures refused { IfOk result
+            (λ outcome. (outcome ≡ Outcome.Done → ⊥)
+            → self.new ≡ done_to self.old self.old.object
+            (noted H.tells (edit_command self.old.number edit.now) (reply_of outcome))) }
+        ensures memory { OnErr result (H.tells ≡ false → WantsMemory edit.now self.old.object) }
         ensures err { OnErr result (self.new ≡ self.old) }
     {
         if !self.object.annals.keeps() {
@@ -85,7 +99,8 @@ impl<H: Annals> Held<PlainObject<H>> {
     fn note(&mut self, command: Command, reply: Reply) -> Result<(), AllocError>
         requires on { object_of command ≡ Some self.old.number }
         requires bytes { with_bytes command ≡ command }
-        ensures ok { OnOk result (self.new ≡ done_to self.old self.old.object (noted H.tells command reply)) }
+        ensures ok { OnOk result
+            (self.new ≡ done_to self.old self.old.object (noted H.tells command reply)) }
         ensures err { OnErr result (self.new ≡ self.old) }
         ensures memory { OnErr result (IsTrue H.tells) }
     {

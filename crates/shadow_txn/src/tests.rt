@@ -2,7 +2,7 @@
 
 ghost use Rattle.std.specs.Prelude.{◌≡◌, ◌≤◌, ◌^◌, [], None, All, IfSome, IfOk, length, vec_len};
 
-use crate::bench::Bench;
+use crate::test_session::TestSession;
 use crate::{BeginFail, HoldFail, PlainObject, Txn, TxnFail};
 use eos_ops::{Act, Annals, Blank, Bytes, Command, Edit, Kept, LAST_STAMP, Payload, Plain, Reply};
 use std::alloc::{AllocError, Global};
@@ -38,24 +38,24 @@ fn absent<H: Annals>(alloc: Global) -> PlainObject<H>
 }
 
 /// Session 1 over two absent objects.
-fn bench_of_two<H: Annals>(alloc: Global) -> Result<Bench<H>, AllocError> {
+fn session_of_two<H: Annals>(alloc: Global) -> Result<TestSession<H>, AllocError> {
     let mut objects = Vec::new(alloc);
     objects.push(absent(alloc))?;
     objects.push(absent(alloc))?;
-    Bench::new(alloc, objects)
+    TestSession::new(alloc, objects)
 }
 
 #[test]
 fn stamps_end_at_the_last_one(rt: HostRuntime) -> Result<(), Fail> {
     let objects = objects_at(rt.alloc(), &[LAST_STAMP, LAST_STAMP - 1])?;
-    let mut bench = Bench::new(rt.alloc(), objects)?;
-    assert_eq!(rt; bench.begin(), Ok(()));
-    assert_eq!(rt; bench.begin(), Err(BeginFail::Active));
-    assert_eq!(rt; bench.hold(&rt, 0), Err(HoldFail::Worn));
-    assert_eq!(rt; bench.hold(&rt, 1), Ok(()));
-    assert_eq!(rt; bench.hold(&rt, 2), Err(HoldFail::NoObject));
-    assert_eq!(rt; bench.commit(&rt), LAST_STAMP);
-    assert_eq!(rt; bench.begin(), Err(BeginFail::Worn));
+    let mut session = TestSession::new(rt.alloc(), objects)?;
+    assert_eq!(rt; session.begin(), Ok(()));
+    assert_eq!(rt; session.begin(), Err(BeginFail::Active));
+    assert_eq!(rt; session.hold(&rt, 0), Err(HoldFail::Worn));
+    assert_eq!(rt; session.hold(&rt, 1), Ok(()));
+    assert_eq!(rt; session.hold(&rt, 2), Err(HoldFail::NoObject));
+    assert_eq!(rt; session.commit(&rt), LAST_STAMP);
+    assert_eq!(rt; session.begin(), Err(BeginFail::Worn));
     Ok(())
 }
 
@@ -71,26 +71,26 @@ fn is_bytes(plain: &Plain, text: &str) -> bool {
 fn make_object<H: Annals>(
     rt: &impl Abort,
     alloc: Global,
-    bench: &mut Bench<H>,
+    session: &mut TestSession<H>,
 ) -> Result<(), Fail> {
-    assert_eq!(rt; bench.begin(), Ok(()));
-    assert_eq!(rt; bench.hold(rt, 0), Ok(()));
-    assert_eq!(rt; bench.length(rt, 0), Err(TxnFail::Missing));
+    assert_eq!(rt; session.begin(), Ok(()));
+    assert_eq!(rt; session.hold(rt, 0), Ok(()));
+    assert_eq!(rt; session.length(rt, 0), Err(TxnFail::Missing));
     let create = Edit::Create { threshold: Some(2) };
-    assert_eq!(rt; bench.edit(rt, 0, &create), Ok(()));
-    assert_eq!(rt; bench.edit(rt, 0, &create), Err(TxnFail::Exists));
+    assert_eq!(rt; session.edit(rt, 0, &create), Ok(()));
+    assert_eq!(rt; session.edit(rt, 0, &create), Err(TxnFail::Exists));
     assert_eq!(rt;
-        bench.edit(rt, 0, &Edit::Append(bytes(alloc, "abc")?)),
+        session.edit(rt, 0, &Edit::Append(bytes(alloc, "abc")?)),
         Ok(())
     );
-    assert_eq!(rt; bench.length(rt, 0), Ok(3));
-    let Ok(part) = bench.read(rt, 0, 1, 2) else {
+    assert_eq!(rt; session.length(rt, 0), Ok(3));
+    let Ok(part) = session.read(rt, 0, 1, 2) else {
         return Err(Fail::from("the bytes are there"));
     };
     assert_eq!(rt; part.as_slice(), b"bc".as_slice());
-    assert!(rt; matches!(bench.read(rt, 0, 2, 2), Err(TxnFail::Range(3))));
+    assert!(rt; matches!(session.read(rt, 0, 2, 2), Err(TxnFail::Range(3))));
     assert_eq!(rt;
-        bench.edit(rt, 0, &Edit::Delete { at: 4, len: 0 }),
+        session.edit(rt, 0, &Edit::Delete { at: 4, len: 0 }),
         Err(TxnFail::Range(3))
     );
     Ok(())
@@ -163,11 +163,11 @@ fn is_worked(i: usize, act: &Act) -> bool {
 
 #[test]
 fn kept_annals_get_the_acts_of_a_commit(rt: HostRuntime) -> Result<(), Fail> {
-    let mut bench: Bench<Kept> = bench_of_two(rt.alloc())?;
-    make_object(&rt, rt.alloc(), &mut bench)?;
-    assert_eq!(rt; bench.hold(&rt, 1), Ok(()));
-    assert_eq!(rt; bench.commit(&rt), 1);
-    let Ok(object) = bench.into_object(&rt, 0) else {
+    let mut session: TestSession<Kept> = session_of_two(rt.alloc())?;
+    make_object(&rt, rt.alloc(), &mut session)?;
+    assert_eq!(rt; session.hold(&rt, 1), Ok(()));
+    assert_eq!(rt; session.commit(&rt), 1);
+    let Ok(object) = session.into_object(&rt, 0) else {
         return Err(Fail::from("the object is home"));
     };
     assert!(rt; is_bytes(&object.committed, "abc"));
@@ -188,12 +188,12 @@ fn kept_annals_get_the_acts_of_a_commit(rt: HostRuntime) -> Result<(), Fail> {
 
 #[test]
 fn kept_annals_get_the_acts_of_an_abort(rt: HostRuntime) -> Result<(), Fail> {
-    let mut bench: Bench<Kept> = bench_of_two(rt.alloc())?;
-    assert_eq!(rt; bench.begin(), Ok(()));
-    assert_eq!(rt; bench.commit(&rt), 1);
-    make_object(&rt, rt.alloc(), &mut bench)?;
-    assert_eq!(rt; bench.abort(&rt), 2);
-    let Ok(object) = bench.into_object(&rt, 0) else {
+    let mut session: TestSession<Kept> = session_of_two(rt.alloc())?;
+    assert_eq!(rt; session.begin(), Ok(()));
+    assert_eq!(rt; session.commit(&rt), 1);
+    make_object(&rt, rt.alloc(), &mut session)?;
+    assert_eq!(rt; session.abort(&rt), 2);
+    let Ok(object) = session.into_object(&rt, 0) else {
         return Err(Fail::from("the object is home"));
     };
     assert!(rt; matches!(object.committed, Plain::Absent));
@@ -211,12 +211,12 @@ fn kept_annals_get_the_acts_of_an_abort(rt: HostRuntime) -> Result<(), Fail> {
 
 #[test]
 fn blank_annals_get_the_stamps(rt: HostRuntime) -> Result<(), Fail> {
-    let mut bench: Bench<Blank> = bench_of_two(rt.alloc())?;
-    make_object(&rt, rt.alloc(), &mut bench)?;
-    assert_eq!(rt; bench.abort(&rt), 1);
-    make_object(&rt, rt.alloc(), &mut bench)?;
-    assert_eq!(rt; bench.commit(&rt), 2);
-    let Ok(object) = bench.into_object(&rt, 0) else {
+    let mut session: TestSession<Blank> = session_of_two(rt.alloc())?;
+    make_object(&rt, rt.alloc(), &mut session)?;
+    assert_eq!(rt; session.abort(&rt), 1);
+    make_object(&rt, rt.alloc(), &mut session)?;
+    assert_eq!(rt; session.commit(&rt), 2);
+    let Ok(object) = session.into_object(&rt, 0) else {
         return Err(Fail::from("the object is home"));
     };
     assert!(rt; is_bytes(&object.committed, "abc"));
@@ -226,15 +226,15 @@ fn blank_annals_get_the_stamps(rt: HostRuntime) -> Result<(), Fail> {
 
 #[test]
 fn an_object_that_is_held_is_busy(rt: HostRuntime) -> Result<(), Fail> {
-    let mut bench: Bench<Blank> = bench_of_two(rt.alloc())?;
+    let mut session: TestSession<Blank> = session_of_two(rt.alloc())?;
     let mut other = Txn::new(rt.alloc(), 2, 2)?;
     assert_eq!(rt; other.begin(), Ok(()));
-    make_object(&rt, rt.alloc(), &mut bench)?;
-    bench.finds_busy(&rt, &mut other, 0);
-    assert_eq!(rt; bench.commit(&rt), 1);
-    let mut bench = bench.hand_over(&rt, other);
-    assert_eq!(rt; bench.hold(&rt, 0), Ok(()));
-    assert_eq!(rt; bench.length(&rt, 0), Ok(3));
-    assert_eq!(rt; bench.commit(&rt), 2);
+    make_object(&rt, rt.alloc(), &mut session)?;
+    session.finds_busy(&rt, &mut other, 0);
+    assert_eq!(rt; session.commit(&rt), 1);
+    let mut session = session.hand_over(&rt, other);
+    assert_eq!(rt; session.hold(&rt, 0), Ok(()));
+    assert_eq!(rt; session.length(&rt, 0), Ok(3));
+    assert_eq!(rt; session.commit(&rt), 2);
     Ok(())
 }

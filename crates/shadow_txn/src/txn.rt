@@ -32,9 +32,25 @@ impl<H: Annals> Model for Txn<H> {
 
     ghost Value = { Transaction (PlainObject H) };
 
-    ghost view = { λ t. record { session = t.session; objects = t.objects; is_open = t.active; number = t.number; stamp = t.stamp; held = t.held.items } };
+    ghost view = { λ t. record {
+      session = t.session;
+      objects = t.objects;
+      is_open = t.active;
+      number = t.number;
+      stamp = t.stamp;
+      held = t.held.items;
+    } };
 
-    ghost invariant = { λ t. IsSound (λ x. H.spare x.annals) (λ x. H.last x.annals) (IsLed H.tells H.told H.last) (vec_capacity t.held) (record { session = t.session; objects = t.objects; is_open = t.active; number = t.number; stamp = t.stamp; held = t.held.items }) };
+    ghost invariant = { λ t. IsSound (λ x. H.spare x.annals) (λ x. H.last x.annals)
+        (IsLed H.tells H.told H.last) (vec_capacity t.held)
+        (record {
+          session = t.session;
+          objects = t.objects;
+          is_open = t.active;
+          number = t.number;
+          stamp = t.stamp;
+          held = t.held.items;
+        }) };
 }
 
 impl<H: Annals> Txn<H> {
@@ -42,7 +58,9 @@ impl<H: Annals> Txn<H> {
     ghost use Rattle.shadow_txn.specs.declared.plain_object.PlainObject.{PlainObject};
     ghost use Rattle.shadow_txn.specs.Serving.{Serves};
 
-    /// A place for the transactions of a session, over so many objects. None is open.
+    /// A place for the transactions of a session, which is numbered from 1 on, over so many objects. None is open.
+    ///
+    /// It makes the room for all objects that may be held. `AllocError` says that there was no memory for it.
     pub fn new(alloc: Global, session: u32, objects: u32) -> Result<Txn<H>, AllocError>
         requires { 1 ≤ session }
         ensures { IfOk result (λ txn. txn ≡ fresh session objects) }
@@ -77,12 +95,14 @@ impl<H: Annals> Txn<H> {
     pub fn begin(&mut self) -> Result<(), BeginFail>
         ensures ok { OnOk result (self.new ≡ begun self.old) }
         ensures active { (result ≡ Err BeginFail.Active) ↔ (self.old.is_open ≡ true) }
-        ensures worn { (result ≡ Err BeginFail.Worn) ↔ ((self.old.is_open ≡ false) × (self.old.stamp ≡ 2 ^ 62)) }
+        ensures worn { (result ≡ Err BeginFail.Worn)
+            ↔ ((self.old.is_open ≡ false) × (self.old.stamp ≡ 2 ^ 62)) }
         ensures err { OnErr result (self.new ≡ self.old) }
         ensures held { self.new.held ≡ self.old.held }
 
         // A shelf that served the session serves it still.
-        ensures serves { (shelf : Shelving (PlainObject H)) → Serves H.told H.last self.old shelf → Serves H.told H.last self.new shelf }
+        ensures serves { (shelf : Shelving (PlainObject H)) → Serves H.told H.last self.old shelf
+            → Serves H.told H.last self.new shelf }
     {
         if self.active {
             return Err(BeginFail::Active);

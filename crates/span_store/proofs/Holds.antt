@@ -240,7 +240,7 @@ or_third false true false c = refl
 or_third false false p c = refl
 
 -- a span between spans in order, cut behind its first n pages
-cut_between : (xs ys : List HeldSpan) (r : HeldSpan) (n m k : ℕ) → InOrder 0 (xs ++ (r ∷ ys)) → 0 < n → n < length r.pages → IsCut (r.first + n) (record { spans = xs ++ (r ∷ ys); room = m }) (record { spans = xs ++ (front_part r n ∷ back_part r n ∷ ys); room = k })
+pub cut_between : (xs ys : List HeldSpan) (r : HeldSpan) (n m k : ℕ) → InOrder 0 (xs ++ (r ∷ ys)) → 0 < n → n < length r.pages → IsCut (r.first + n) (record { spans = xs ++ (r ∷ ys); room = m }) (record { spans = xs ++ (front_part r n ∷ back_part r n ∷ ys); room = k })
 cut_between xs ys r n m k order some fewer =
     let front = InOrder-front 0 xs (r ∷ ys) order in
     let back = InOrder-back 0 xs (r ∷ ys) order in

@@ -3,3 +3,4 @@ pub mod Runs
 pub mod Meters
 pub mod Overwrites
 pub mod Holds
+pub mod Joins

@@ -1,8 +1,22 @@
 -- The counts of a port after several calls that read, or that write.
 use Rattle.std.proofs.Common.{◌≡◌, ℕ, ◌+◌, ◌<◌, ◌≤◌, refl, ap, ◌∙◌, inl, inr, arith}
 use Rattle.std.proofs.lemmas.Bool.{cases_lt}
-use Rattle.page_port.specs.Counts.{HasCause, Meter, counted, after_read, after_write}
+use Rattle.page_port.specs.Counts.{HasCause, IsUsed, Meter, counted, after_read, after_write}
 use Rattle.span_store.specs.Calls.{ReadsUpTo, WritesUpTo}
+
+-- a port that wasn't used, and one that was used twice
+pub IsUsed-none : (m : Meter) → IsUsed m m
+IsUsed-none m = record { page = refl; faults = omega arith; read = omega arith; written = omega arith }
+
+pub IsUsed-then : (old mid new : Meter) → IsUsed old mid → IsUsed mid new → IsUsed old new
+IsUsed-then old mid new first second =
+    let faults = first.faults in
+    let read = first.read in
+    let written = first.written in
+    let faults_next = second.faults in
+    let read_next = second.read in
+    let written_next = second.written in
+    record { page = second.page ∙ first.page; faults = omega arith; read = omega arith; written = omega arith }
 
 -- so many pages were read so far
 pub record HasRead (n : ℕ) (old now : Meter) : Type 0 where
@@ -38,10 +52,10 @@ pub HasRead-most : (a n : ℕ) (old new : Meter) → HasRead a old new → 0 < a
 HasRead-most a n old new so_far some less =
     let e = so_far.some some in
     let read : new.read ≡ counted old.read a = ap (λ (m : Meter). m.read) e in
+    let written : new.written ≡ old.written = ap (λ (m : Meter). m.written) e in
     record {
-      page = so_far.page;
-      written = ap (λ (m : Meter). m.written) e;
-      least = so_far.read;
+      used = record { page = so_far.page; faults = so_far.faults; read = so_far.read; written = omega (arith, written) };
+      written = written;
       most = omega arith;
     }
 
@@ -78,10 +92,10 @@ pub HasWritten-most : (a n : ℕ) (old new : Meter) → HasWritten a old new →
 HasWritten-most a n old new so_far some less =
     let e = so_far.some some in
     let written : new.written ≡ counted old.written a = ap (λ (m : Meter). m.written) e in
+    let read : new.read ≡ old.read = ap (λ (m : Meter). m.read) e in
     record {
-      page = so_far.page;
-      read = ap (λ (m : Meter). m.read) e;
-      least = so_far.written;
+      used = record { page = so_far.page; faults = so_far.faults; read = omega (arith, read); written = so_far.written };
+      read = read;
       most = omega arith;
     }
 

@@ -1,7 +1,7 @@
 -- What the calls make of the holdings, and of a port.
 use Rattle.std.specs.Prelude.{◌≡◌, ℕ, ◌+◌, ◌<◌, ◌≤◌, ◌==◌, ◌&&◌, ◌||◌, not, true, false, IsTrue, length, None, is_some, if◌then◌else◌}
 use Rattle.std.specs.Option.{option_or}
-use Rattle.page_port.specs.Counts.{Meter, counted}
+use Rattle.page_port.specs.Counts.{IsUsed, Meter, counted}
 use Rattle.span_store.specs.Held.{HeldSpan, Held, page_of, page_at, has, begins}
 
 -- the same pages are held, with the same on each of them
@@ -34,6 +34,13 @@ pub record IsCut (page : ℕ) (old new : Held) : Type 0 where
   pub begun : (q : ℕ) → begins new q ≡ (page == q || begins old q)
   pub count : length new.spans ≡ (if begins old page then length old.spans else length old.spans + 1)
 
+-- the span that ended before this page and the one that began at it are one: a cut there gives back what
+-- was held
+pub record IsJoined (page : ℕ) (old new : Held) : Type 0 where
+  pub whole : begins new page ≡ false
+  pub cut : IsCut page new old
+  pub room : new.room ≡ old.room
+
 -- the n pages from `first` on may hold something else; the same pages are held, in the same spans
 pub record IsOverwritten (first n : ℕ) (old new : Held) : Type 0 where
   pub before : (q : ℕ) → q < first → page_at new q ≡ page_at old q
@@ -43,16 +50,14 @@ pub record IsOverwritten (first n : ℕ) (old new : Held) : Type 0 where
   pub count : length new.spans ≡ length old.spans
   pub room : new.room ≡ old.room
 
--- at most n pages were read, and none was written
+-- a port was used: at most n pages were read, and none was written
 pub record ReadsUpTo (n : ℕ) (old new : Meter) : Type 0 where
-  pub page : new.page ≡ old.page
+  pub used : IsUsed old new
   pub written : new.written ≡ old.written
-  pub least : old.read ≤ new.read
   pub most : new.read ≤ counted old.read n
 
--- at most n pages were written, and none was read
+-- a port was used: at most n pages were written, and none was read
 pub record WritesUpTo (n : ℕ) (old new : Meter) : Type 0 where
-  pub page : new.page ≡ old.page
+  pub used : IsUsed old new
   pub read : new.read ≡ old.read
-  pub least : old.written ≤ new.written
   pub most : new.written ≤ counted old.written n

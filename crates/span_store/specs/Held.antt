@@ -1,5 +1,5 @@
 -- What is held: spans, and through them pages.
-use Rattle.std.specs.Prelude.{◌≡◌, ℕ, ◌+◌, ◌-◌, ◌<◌, ◌≤◌, ◌==◌, Bool, IsTrue, List, [], ◌∷◌, length, map, nat_le, Option, None, is_some, IfSome, unwrap_or, slice_get, if◌then◌else◌}
+use Rattle.std.specs.Prelude.{◌≡◌, ℕ, ◌+◌, ◌-◌, ◌<◌, ◌≤◌, ◌==◌, ◌&&◌, Bool, IsTrue, List, [], ◌∷◌, length, map, nat_le, nat_lt, Option, None, is_some, IfSome, unwrap_or, slice_get, if◌then◌else◌}
 use Rattle.std.specs.List.{list_any}
 use Rattle.std.specs.Option.{option_or}
 use Rattle.tree_model.specs.Tree.{Pages}
@@ -53,6 +53,14 @@ bytes_on held = bytes_in held.spans
 -- does a span begin at the page?
 abbrev pub begins : Held → ℕ → Bool
 begins held q = begins_in held.spans q
+
+-- does one of these spans end before the page, and another begin at it?
+abbrev pub is_border_in : List HeldSpan → ℕ → Bool
+is_border_in spans q = nat_lt 0 q && (is_some (page_in spans (q - 1)) && begins_in spans q)
+
+-- is it so with the spans that are held?
+abbrev pub is_border : Held → ℕ → Bool
+is_border held q = is_border_in held.spans q
 
 -- no page is held
 abbrev pub IsEmpty : Held → Type 0

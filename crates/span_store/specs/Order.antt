@@ -36,6 +36,21 @@ abbrev pub with_cut : List HeldSpan → ℕ → ℕ → List HeldSpan
 with_cut spans i n =
     take i spans ++ (front_part (slice_index_or spans i no_span) n ∷ back_part (slice_index_or spans i no_span) n ∷ drop (suc i) spans)
 
+-- the span at i ends where the one behind it begins, at this page
+pub record IsBorder (spans : List HeldSpan) (page i : ℕ) : Type 0 where
+  pub within : i + 1 < length spans
+  pub end : (slice_index_or spans i no_span).first + length (slice_index_or spans i no_span).pages ≡ page
+  pub next : first_at spans (i + 1) ≡ page
+
+-- a span and the one behind it as one
+abbrev pub as_one : HeldSpan → HeldSpan → HeldSpan
+as_one s t = record { first = s.first; pages = s.pages ++ t.pages }
+
+-- the span at i and the one behind it are one
+abbrev pub with_join : List HeldSpan → ℕ → List HeldSpan
+with_join spans i =
+    take i spans ++ (as_one (slice_index_or spans i no_span) (slice_index_or spans (suc i) no_span) ∷ drop (suc (suc i)) spans)
+
 -- the n pages from `first` on are pages of these spans
 abbrev pub HaveRun : List HeldSpan → ℕ → ℕ → Type 0
 HaveRun spans first n = (q : ℕ) → first ≤ q → q < first + n → IsTrue (is_some (page_in spans q))

@@ -1,14 +1,14 @@
 //! Holdings: the spans that an object owns.
 
-ghost use Rattle.std.specs.Prelude.{◌≡◌, ℕ, ◌+◌, ◌/◌, ◌<◌, ◌≤◌, ◌↔◌, [], length, true, IsTrue, IsOk, IsErr, IsNone, OnOk, OnErr, IfSome, IfNone};
+ghost use Rattle.std.specs.Prelude.{◌≡◌, ℕ, ◌+◌, ◌/◌, ◌<◌, ◌≤◌, ◌↔◌, [], length, true, false, IsTrue, IsOk, IsErr, IsNone, OnOk, OnErr, IfSome, IfNone};
 ghost use Rattle.tree_model.specs.Content.{run_bytes};
 ghost use Rattle.page_port.specs.Counts.{HasCause, after_read, after_write};
 ghost use Rattle.page_port.specs.Pages.{IsSized, IsWhole};
-ghost use Rattle.span_store.specs.Held.{AllSized, HasRun, IsEmpty, LacksRun, begins, bytes_on, has, span_of};
-ghost use Rattle.span_store.specs.Calls.{IsAdded, IsCut, IsOverwritten, IsRemoved, ReadsUpTo, WritesUpTo};
+ghost use Rattle.span_store.specs.Held.{AllSized, HasRun, IsEmpty, LacksRun, begins, bytes_on, has, is_border, span_of};
+ghost use Rattle.span_store.specs.Calls.{IsAdded, IsCut, IsJoined, IsOverwritten, IsRemoved, ReadsUpTo, WritesUpTo};
 
-use crate::pieces::{cut, put};
-use crate::place::place_of;
+use crate::pieces::{cut, join, put};
+use crate::place::{border_at, place_of};
 use crate::read::read_spans;
 use crate::run::has_run;
 use crate::write::write_spans;
@@ -64,7 +64,8 @@ impl<S: Span> Holdings<S> {
         self.spans.reserve(n)
     }
 
-    /// Holds a span more. It takes no memory: `reserve` made the room.
+    /// Holds a span more. It takes no memory: `reserve` made the room. It moves the records of the spans
+    /// behind this one: none where spans are added in the order of their pages.
     pub fn add(&mut self, span: S)
         requires room { length self.old.spans < self.old.room }
         requires apart { LacksRun self.old (S.start span) (length (S.contents span)) }
@@ -80,7 +81,7 @@ impl<S: Span> Holdings<S> {
     }
 
     /// Cuts the span that has this page, so that one begins there. Where one begins there already, or
-    /// there is room for one more, it takes no memory.
+    /// there is room for one more, it takes no memory. A cut moves the records of the spans behind the page.
     ///
     /// # Errors
     /// There was no memory: nothing changed.
@@ -103,7 +104,21 @@ impl<S: Span> Holdings<S> {
         Ok(())
     }
 
-    /// Takes out the span that begins at this page. It takes no memory.
+    /// Makes the span that ends before this page and the one that begins at it one, where there are both: the
+    /// reverse of a cut. It takes no memory, and moves the records of the spans behind the page.
+    pub fn join_at(&mut self, page: u32)
+        ensures joined { IsTrue (is_border self.old page) → IsJoined page self.old self.new }
+        ensures unchanged { is_border self.old page ≡ false → self.new ≡ self.old }
+        ensures sized { (size : ℕ) → AllSized S.tells size self.old → AllSized S.tells size self.new }
+    {
+        let Some(index) = border_at(self.spans.as_slice(), page) else {
+            return;
+        };
+        join(&mut self.spans, index);
+    }
+
+    /// Takes out the span that begins at this page. It takes no memory, and moves the records of the spans
+    /// behind this one.
     pub fn remove(&mut self, first: u32) -> S
         requires { IsTrue (begins self.old first) }
         ensures first { S.start result ≡ first }
@@ -115,7 +130,8 @@ impl<S: Span> Holdings<S> {
         self.spans.remove(index)
     }
 
-    /// Takes out some span. `None` comes exactly where no page is held. It takes no memory.
+    /// Takes out some span. `None` comes exactly where no page is held. It takes no memory, and moves no
+    /// record.
     pub fn take_any(&mut self) -> Option<S>
         ensures removed { IfSome result (λ span.
             IsRemoved (span_of S.start S.contents span) self.old self.new) }

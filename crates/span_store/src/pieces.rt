@@ -1,9 +1,9 @@
-//! One span of a list: put into its place, cut in two, or used from a page on.
+//! One span of a list: put into its place, cut in two, joined with the next one, or used from a page on.
 
 ghost use Rattle.std.specs.Prelude.{◌≡◌, ◌+◌, ◌-◌, ◌^◌, ◌<◌, ◌≤◌, length, min, slice_index_or, vec_len, vec_capacity};
 ghost use Rattle.std.specs.List.{insert};
 ghost use Rattle.span_store.specs.Held.{spans_of};
-ghost use Rattle.span_store.specs.Order.{no_span, with_cut};
+ghost use Rattle.span_store.specs.Order.{first_at, no_span, with_cut, with_join};
 
 use page_port::Span;
 
@@ -34,6 +34,20 @@ pub fn cut<S: Span>(spans: &mut Vec<S>, index: usize, n: u32)
 {
     let front = spans[index].cut(n);
     put(spans, index, front);
+}
+
+/// Makes a span and the one behind it, which begins where it ends, one. It takes no memory.
+pub fn join<S: Span>(spans: &mut Vec<S>, index: usize)
+    requires within { index + 1 < vec_len spans.old }
+    requires meets { first_at (spans_of S.start S.contents spans.old.items) (index + 1)
+        ≡ first_at (spans_of S.start S.contents spans.old.items) index + length (slice_index_or
+        (spans_of S.start S.contents spans.old.items) index no_span).pages }
+    ensures joined { spans_of S.start S.contents spans.new.items
+        ≡ with_join (spans_of S.start S.contents spans.old.items) index }
+    ensures room { vec_capacity spans.new ≡ vec_capacity spans.old }
+{
+    let next = spans.remove(index + 1);
+    spans[index].join(next);
 }
 
 /// How many pages a span has from `page` on, at most `most`.

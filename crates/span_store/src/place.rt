@@ -1,8 +1,8 @@
-//! The place of a page among spans in order, by halving.
+//! The place of a page among spans in order, by halving, and the place where two of them meet.
 
-ghost use Rattle.std.specs.Prelude.{◌≡◌, ◌+◌, ◌-◌, ◌<◌, ◌≤◌, length};
-ghost use Rattle.span_store.specs.Held.{spans_of};
-ghost use Rattle.span_store.specs.Order.{IsPlace};
+ghost use Rattle.std.specs.Prelude.{◌≡◌, ◌+◌, ◌-◌, ◌<◌, ◌≤◌, length, false, IfSome, IfNone};
+ghost use Rattle.span_store.specs.Held.{is_border_in, spans_of};
+ghost use Rattle.span_store.specs.Order.{InOrder, IsBorder, IsPlace};
 
 use page_port::Span;
 
@@ -22,4 +22,29 @@ pub fn place_of<S: Span>(spans: &[S], page: u32) -> usize
         }
     }
     low
+}
+
+/// The place of the span that ends where the one behind it begins, at this page. `None` comes exactly where
+/// no two spans meet there.
+pub fn border_at<S: Span>(spans: &[S], page: u32) -> Option<usize>
+    requires { InOrder 0 (spans_of S.start S.contents spans.now) }
+    ensures found { IfSome result (λ index. IsBorder (spans_of S.start S.contents spans.now) page index) }
+    ensures none { IfNone result (is_border_in (spans_of S.start S.contents spans.now) page ≡ false) }
+{
+    let behind = place_of(spans, page);
+    if behind < 2 {
+        return None;
+    }
+    let index = behind - 2;
+    let next = behind - 1;
+    let begun = spans[next].first();
+    if begun != page {
+        return None;
+    }
+    let before = &spans[index];
+    let end = before.first() + before.pages();
+    if end != page {
+        return None;
+    }
+    Some(index)
 }

@@ -222,3 +222,26 @@ fn a_failed_call_leaves_the_other_pages(rt: HostRuntime) -> Result<(), AllocErro
     }
     Ok(())
 }
+
+#[test]
+fn spans_that_meet_are_joined_and_read_by_one_call(rt: HostRuntime) -> Result<(), AllocError> {
+    let fail = vec![in rt.alloc();
+        FailAt {
+            port: 1,
+            write: false,
+            call: 2
+        },
+    ]?;
+    let (mut port, span) = device(&rt, rt.alloc(), fail);
+    let mut held = holdings(&rt, rt.alloc(), span);
+    held.join_at(5);
+    held.join_at(3);
+    held.join_at(2);
+    assert_eq!(rt; read_two(&rt, &held, &mut port, 2), (2, 3));
+    for want in [(5, 3), (1, 3)] {
+        let span = held.take_any().expect(&rt, "two spans");
+        assert_eq!(rt; (span.first(), span.pages()), want);
+    }
+    assert!(rt; held.take_any().is_none());
+    Ok(())
+}

@@ -185,12 +185,15 @@ around_all : (views : List SpaceView) (frame : Frame) (start n : ℕ) (o : Optio
 around_all views frame start n o same e =
     ap (λ (k : ℕ). spot_in (free_of views) n (around start k)) (length-map views (λ (v : SpaceView). v.free) ∙ same) ∙ e
 
+abbrev extent_of : ℕ → ℕ → Extent
+extent_of page count = record { page = page; pages = count }
+
 answered_placed : {A : Type 0} (space first : A → ℕ) (pages : A → List (List ℕ)) (tells : Bool) (frame : Frame) (start n t : ℕ) (new : Rest) (x : A) (numbers : Numbers) (k : ℕ) (views : List SpaceView) (o : Option Spot) →
-    IsSegmentIn frame n (space x) (first x) (pages x) tells → IsLaid numbers frame.firsts → length views ≡ length frame.firsts →
+    IsSegmentIn frame n (space x) (first x) (pages x) tells → length views ≡ length frame.firsts →
     spot_in (free_of views) n (around start (length frame.firsts)) ≡ o → IsExact views n o frame (Some (space x, first x)) new →
-    IsAnswered space first pages views (halved (suc k) numbers start t n (free_of views)) None (x ∷ []) new
-answered_placed space first pages tells frame start n t new x numbers k views None segment laid same e h = (let never : Some (space x, first x) ≡ None = h.0 in cc)
-answered_placed space first pages tells frame start n t new x numbers k views (Some spot) segment laid same e (found, (after, taken, told)) =
+    IsAnswered space first pages views (IsLaid numbers frame.firsts) (halved (suc k) numbers start t n (free_of views)) None (x ∷ []) new
+answered_placed space first pages tells frame start n t new x numbers k views None segment same e h = (let never : Some (space x, first x) ≡ None = h.0 in cc)
+answered_placed space first pages tells frame start n t new x numbers k views (Some spot) segment same e (found, (after, taken, told)) =
     let pair : (space x, first x) ≡ (spot.space, slice_index frame.firsts spot.space + spot.at) = cc in
     let named : space x ≡ spot.space = ap (λ (p : ℕ × ℕ). p.0) pair in
     let begun : first x ≡ slice_index frame.firsts spot.space + spot.at = ap (λ (p : ℕ × ℕ). p.1) pair in
@@ -202,11 +205,9 @@ answered_placed space first pages tells frame start n t new x numbers k views (S
     let after_is : after ≡ set views (space x) (granted taken.was (first x - taken.was.first) (length (pages x))) =
     taken.now ∙ ap (λ (s : ℕ). set views s (granted taken.was spot.at n)) (sym named) ∙ ap (λ (m : ℕ). set views (space x) (granted taken.was spot.at m)) (sym long)
     ∙ ap (λ (i : ℕ). set views (space x) (granted taken.was i (length (pages x)))) (sym at) in
-    let page : data_page numbers spot.space spot.at ≡ first x = sym (begun ∙ ap (λ (f : ℕ). f + spot.at) (laid spot.space (omega (arith, named, segment.named)))) in
     let left : without (free_of views) spot n ≡ free_of after =
     ap (λ (f : List Bool). set (free_of views) spot.space (with_run f spot.at n false)) free
     ∙ sym (ap free_of taken.now ∙ map-set (λ (v : SpaceView). v.free) views spot.space (granted taken.was spot.at n)) in
-    let alone : ℕ → ℕ → Spaces → Answer (List Extent) = λ p m l. Got (record { page = p; pages = m } ∷ []) l in
     record {
       after = after;
       taken = (
@@ -217,8 +218,11 @@ answered_placed space first pages tells frame start n t new x numbers k views (S
         after_is,
       );
       told = told;
-      same = placed k numbers start t n (free_of views) spot all
-          ∙ ap (λ (p : ℕ). alone p n (without (free_of views) spot n)) page ∙ ap (λ (m : ℕ). alone (first x) m (without (free_of views) spot n)) (sym long) ∙ ap (alone (first x) (length (pages x))) left;
+      listed = extent_of (data_page numbers spot.space spot.at) n ∷ [];
+      same = placed k numbers start t n (free_of views) spot all ∙ ap (λ (l : Spaces). Got (extent_of (data_page numbers spot.space spot.at) n ∷ []) l) left;
+      matched = λ laid.
+          let page : data_page numbers spot.space spot.at ≡ first x = sym (begun ∙ ap (λ (f : ℕ). f + spot.at) (laid spot.space (omega (arith, named, segment.named)))) in
+          ap (λ (p : ℕ). extent_of p n ∷ []) page ∙ ap (λ (m : ℕ). extent_of (first x) m ∷ []) (sym long);
     }
 
 -- all pages in one piece
@@ -239,11 +243,11 @@ adds_placed {A} space first pages tells frame start n t old new had has x some s
   told = steps_some;
 }
   where
-    steps_some : (numbers : Numbers) (steps : ℕ) (views : List SpaceView) → n ≤ steps → IsLaid numbers frame.firsts → AreTold old views → length views ≡ length frame.firsts →
-        IsAnswered space first pages views (halved steps numbers start t n (free_of views)) None (x ∷ []) new
-    steps_some numbers zero views many laid told same = absurd (omega arith)
-    steps_some numbers (suc k) views many laid told same =
-        answered_placed space first pages tells frame start n t new x numbers k views (spot_in (free_of views) n (around start (length frame.firsts))) segment laid same refl (exact views told same)
+    steps_some : (numbers : Numbers) (steps : ℕ) (views : List SpaceView) → n ≤ steps → AreTold old views → length views ≡ length frame.firsts →
+        IsAnswered space first pages views (IsLaid numbers frame.firsts) (halved steps numbers start t n (free_of views)) None (x ∷ []) new
+    steps_some numbers zero views many told same = absurd (omega arith)
+    steps_some numbers (suc k) views many told same =
+        answered_placed space first pages tells frame start n t new x numbers k views (spot_in (free_of views) n (around start (length frame.firsts))) segment same refl (exact views told same)
 
 -- a refusal of pages that are too few to be cut
 pub adds_uncut : {A : Type 0} (space first : A → ℕ) (pages : A → List (List ℕ)) (tells : Bool) (frame : Frame) (start n t : ℕ) (old new : Rest) (had : List A) → 1 ≤ n → n < 2 * t →
@@ -258,12 +262,19 @@ adds_uncut space first pages tells frame start n t old new had some small exact 
   told = steps_none;
 }
   where
-    steps_none : (numbers : Numbers) (steps : ℕ) (views : List SpaceView) → n ≤ steps → IsLaid numbers frame.firsts → AreTold old views → length views ≡ length frame.firsts →
-        IsAnswered space first pages views (halved steps numbers start t n (free_of views)) (Some n) [] new
-    steps_none numbers zero views many laid told same = absurd (omega arith)
-    steps_none numbers (suc k) views many laid told same =
+    steps_none : (numbers : Numbers) (steps : ℕ) (views : List SpaceView) → n ≤ steps → AreTold old views → length views ≡ length frame.firsts →
+        IsAnswered space first pages views (IsLaid numbers frame.firsts) (halved steps numbers start t n (free_of views)) (Some n) [] new
+    steps_none numbers zero views many told same = absurd (omega arith)
+    steps_none numbers (suc k) views many told same =
         let found = exact_none views n (spot_in (free_of views) n (around start (length frame.firsts))) frame new (exact views told same) in
-        record { after = views; taken = refl; told = found.1; same = uncut k numbers start t n (free_of views) (around_all views frame start n None same found.0) small }
+        record {
+          after = views;
+          taken = refl;
+          told = found.1;
+          listed = [];
+          same = uncut k numbers start t n (free_of views) (around_all views frame start n None same found.0) small;
+          matched = λ laid. refl;
+        }
 
 first_refused : (k : ℕ) (numbers : Numbers) (start t n p : ℕ) (spaces left : Spaces) (runs : List Extent) → halved k numbers start t ((n + 1) / 2) spaces ≡ Refused p → both_halves k numbers start t n spaces ≡ outcome (Some p) runs left
 first_refused k numbers start t n p spaces left runs e =
@@ -293,23 +304,22 @@ adds_first {A} space first pages tells frame start n c t p old middle new had ha
   told = steps_first;
 }
   where
-    steps_first : (numbers : Numbers) (steps : ℕ) (views : List SpaceView) → n ≤ steps → IsLaid numbers frame.firsts → AreTold old views → length views ≡ length frame.firsts →
-        IsAnswered space first pages views (halved steps numbers start t n (free_of views)) (Some p) adds.pieces new
-    steps_first numbers zero views many laid told same = absurd (omega arith)
-    steps_first numbers (suc k) views many laid told same =
+    steps_first : (numbers : Numbers) (steps : ℕ) (views : List SpaceView) → n ≤ steps → AreTold old views → length views ≡ length frame.firsts →
+        IsAnswered space first pages views (IsLaid numbers frame.firsts) (halved steps numbers start t n (free_of views)) (Some p) adds.pieces new
+    steps_first numbers zero views many told same = absurd (omega arith)
+    steps_first numbers (suc k) views many told same =
         let found = exact_none views n (spot_in (free_of views) n (around start (length frame.firsts))) frame middle (exact views told same) in
-        let answered = adds.told numbers k views (omega arith) laid found.1 same in
+        let answered = adds.told numbers k views (omega arith) found.1 same in
         let c_is : c ≡ (n + 1) / 2 = omega arith in
         record {
           after = answered.after;
           taken = answered.taken;
           told = answered.told;
+          listed = answered.listed;
           same = cut k numbers start t n (free_of views) (around_all views frame start n None same found.0) large
-              ∙ first_refused k numbers start t n p (free_of views) (free_of answered.after) (extents first pages adds.pieces) (ap (λ (m : ℕ). halved k numbers start t m (free_of views)) (sym c_is) ∙ answered.same);
+              ∙ first_refused k numbers start t n p (free_of views) (free_of answered.after) answered.listed (ap (λ (m : ℕ). halved k numbers start t m (free_of views)) (sym c_is) ∙ answered.same);
+          matched = answered.matched;
         }
-
-abbrev extent_of : ℕ → ℕ → Extent
-extent_of page count = record { page = page; pages = count }
 
 -- the larger half was granted, and the smaller one asked for
 pub adds_both : {A : Type 0} (space first : A → ℕ) (pages : A → List (List ℕ)) (tells : Bool) (frame : Frame) (start n c t : ℕ) (refusal : Option ℕ) (old middle next new : Rest) (had more has : List A) → 1 ≤ n → 1 ≤ t → 2 * t ≤ n → c ≡ n - n / 2 →
@@ -327,23 +337,24 @@ adds_both {A} space first pages tells frame start n c t refusal old middle next 
   told = steps_both;
 }
   where
-    steps_both : (numbers : Numbers) (steps : ℕ) (views : List SpaceView) → n ≤ steps → IsLaid numbers frame.firsts → AreTold old views → length views ≡ length frame.firsts →
-        IsAnswered space first pages views (halved steps numbers start t n (free_of views)) refusal (a.pieces ++ b.pieces) new
-    steps_both numbers zero views many laid told same = absurd (omega arith)
-    steps_both numbers (suc k) views many laid told same =
+    steps_both : (numbers : Numbers) (steps : ℕ) (views : List SpaceView) → n ≤ steps → AreTold old views → length views ≡ length frame.firsts →
+        IsAnswered space first pages views (IsLaid numbers frame.firsts) (halved steps numbers start t n (free_of views)) refusal (a.pieces ++ b.pieces) new
+    steps_both numbers zero views many told same = absurd (omega arith)
+    steps_both numbers (suc k) views many told same =
         let found = exact_none views n (spot_in (free_of views) n (around start (length frame.firsts))) frame middle (exact views told same) in
-        let one = a.told numbers k views (omega arith) laid found.1 same in
-        let two = b.told numbers k one.after (omega arith) laid one.told (taken_length space first pages views a.pieces one.after one.taken ∙ same) in
+        let one = a.told numbers k views (omega arith) found.1 same in
+        let two = b.told numbers k one.after (omega arith) one.told (taken_length space first pages views a.pieces one.after one.taken ∙ same) in
         let c_is : c ≡ (n + 1) / 2 = omega arith in
         let joined : extents first pages a.pieces ++ extents first pages b.pieces ≡ extents first pages (a.pieces ++ b.pieces) = sym (map-append (λ (run : A). extent_of (first run) (length (pages run))) a.pieces b.pieces) in
         record {
           after = two.after;
           taken = taken_append space first pages views a.pieces b.pieces one.after two.after one.taken two.taken;
           told = two.told;
+          listed = one.listed ++ two.listed;
           same = cut k numbers start t n (free_of views) (around_all views frame start n None same found.0) large
-              ∙ both_granted k numbers start t n refusal (free_of views) (free_of one.after) (free_of two.after) (extents first pages a.pieces) (extents first pages b.pieces)
-              (ap (λ (m : ℕ). halved k numbers start t m (free_of views)) (sym c_is) ∙ one.same) two.same
-              ∙ ap (λ (l : List Extent). outcome refusal l (free_of two.after)) joined;
+              ∙ both_granted k numbers start t n refusal (free_of views) (free_of one.after) (free_of two.after) one.listed two.listed
+              (ap (λ (m : ℕ). halved k numbers start t m (free_of views)) (sym c_is) ∙ one.same) two.same;
+          matched = λ laid. ap (λ (l : List Extent). l ++ two.listed) (one.matched laid) ∙ ap (λ (l : List Extent). extents first pages a.pieces ++ l) (two.matched laid) ∙ joined;
         }
 
 -- ---- the room in the list
@@ -371,14 +382,16 @@ room_enough n t len capacity least room =
 -- ---- a refusal
 
 -- the pieces before a refusal were given back, and the told spaces are as before
-pub refused_whole : {A : Type 0} (space first : A → ℕ) (pages : A → List (List ℕ)) (tells : Bool) (frame : Frame) (views : List SpaceView) (answer : Answer (List Extent)) (p : ℕ) (pieces kept : List A) (middle new : Rest) →
-    AreRunsIn space first pages tells frame pieces → (answered : IsAnswered space first pages views answer (Some p) pieces middle) →
-    ((after : List SpaceView) × AreTold new after × IsGivenAll space first pages answered.after pieces after) → kept ≡ [] → IsAnswered space first pages views answer (Some p) kept new
-refused_whole {A} space first pages tells frame views answer p pieces kept middle new runs answered (after, told, back) none =
+pub refused_whole : {A : Type 0} (space first : A → ℕ) (pages : A → List (List ℕ)) (tells : Bool) (frame : Frame) (views : List SpaceView) (laid : Type 0) (answer : Answer (List Extent)) (p : ℕ) (pieces kept : List A) (middle new : Rest) →
+    AreRunsIn space first pages tells frame pieces → (answered : IsAnswered space first pages views laid answer (Some p) pieces middle) →
+    ((after : List SpaceView) × AreTold new after × IsGivenAll space first pages answered.after pieces after) → kept ≡ [] → IsAnswered space first pages views laid answer (Some p) kept new
+refused_whole {A} space first pages tells frame views laid answer p pieces kept middle new runs answered (after, told, back) none =
     let same : after ≡ views = restored space first pages tells frame views pieces answered.after after runs answered.taken back in
-    subst (λ (l : List A). IsAnswered space first pages views answer (Some p) l new) (sym none) (record {
+    subst (λ (l : List A). IsAnswered space first pages views laid answer (Some p) l new) (sym none) (record {
       after = after;
       taken = same;
       told = told;
+      listed = [];
       same = answered.same;
+      matched = λ _. refl;
     })

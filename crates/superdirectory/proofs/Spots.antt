@@ -13,8 +13,10 @@ use Rattle.block_model.proofs.Changes.{length-with_run}
 use Rattle.block_model.proofs.Laws.{hint_of-is, HasNoRoom-hint, HasNoRoom-place, place-HasNoRoom, place-within, hint-room}
 use Rattle.layout_model.specs.Grants.{Spot, space_at, spot_in}
 use Rattle.space_directory.specs.SpaceView.{SpaceView, IsSpace, IsGrant, IsRunOf, IsSegmentOf, granted, given, locked_more, unlocked}
-use Rattle.superdirectory.specs.Rest.{Frame, Rest, IsOf, IsTold}
-use Rattle.superdirectory.specs.Grants.{AreTold, free_of, IsSegmentIn, IsExact, IsRunIn, IsChanged, AreRunsIn, IsGivenAll}
+use Rattle.superdirectory.specs.Trace.{Event, Part, enter_event, IsNothing}
+use Rattle.superdirectory.specs.Rest.{Frame, Rest, count, IsOf, IsTold, entering, leaving}
+use Rattle.superdirectory.specs.Grants.{AreTold, free_of, IsSegmentIn, IsExact, IsRunIn, IsChanged, IsUsed, AreRunsIn, IsGivenAll}
+use Rattle.superdirectory.proofs.Traces.{part_used}
 
 pub view_at : (views : List SpaceView) (s : ℕ) → s < length views → (v : SpaceView) × (slice_get views s ≡ Some v)
 view_at [] s less = absurd (omega arith)
@@ -172,13 +174,28 @@ exact_second views n xs ys frame o rest none here = subst (λ (x : Option Spot).
 pub exact_first : (views : List SpaceView) (n : ℕ) (ys zs : List ℕ) (frame : Frame) (p : ℕ × ℕ) (rest : Rest) → IsExact views n (spot_in (free_of views) n ys) frame (Some p) rest → IsExact views n (spot_in (free_of views) n (ys ++ zs)) frame (Some p) rest
 exact_first views n ys zs frame p rest here = exact_after views n [] ys zs frame p rest refl here
 
--- one space entered, changed and left
-pub left_changed : (change : SpaceView → SpaceView) (views : List SpaceView) (s : ℕ) (v old new : SpaceView) (rest : Rest) → slice_get views s ≡ Some v → old ≡ v → new ≡ change old →
+-- the told spaces once one was entered, changed and left
+left_changed : (change : SpaceView → SpaceView) (views : List SpaceView) (s : ℕ) (v old new : SpaceView) (rest : Rest) → slice_get views s ≡ Some v → old ≡ v → new ≡ change old →
     rest.spaces ≡ Some (slice_set (slice_set (map Some views) s None) s (Some new)) → IsChanged views s change rest
 left_changed change views s v old new rest here same made spaces = record {
   was = v;
   here = here;
   now = spaces ∙ ap (λ (l : List (Option SpaceView)). Some l) (set_back views s v new here ∙ ap (λ (x : SpaceView). map Some (set views s x)) (made ∙ ap change same));
+}
+
+-- one space entered, changed and left
+pub used : (change : SpaceView → SpaceView) (s : ℕ) (v w : SpaceView) (old middle new : Rest) (a b c : Option (List Event)) → s < count old →
+    ((u : SpaceView) → IsTold old s u → v ≡ u) → w ≡ change v → middle ≡ entering old s → new ≡ leaving middle s w →
+    Part (λ part. part ≡ enter_event s (hint_of v.free) ∷ []) a b → Part IsNothing b c → IsUsed s change old new a c
+used change s v w old middle new a b c named same made enters leaves entered left = record {
+  rest = record { frame = ap (λ (r : Rest). r.frame) leaves ∙ ap (λ (r : Rest). r.frame) enters; entered = ap (λ (r : Rest). r.entered) leaves };
+  trace = part_used s (hint_of v.free) a b c entered left;
+  told = λ views told long.
+      let u = view_at views s (omega (arith, named, long)) in
+      let back : new.spaces ≡ Some (slice_set (slice_set (map Some views) s None) s (Some w)) =
+      ap (λ (r : Rest). r.spaces) (leaves ∙ ap (λ (r : Rest). leaving r s w) enters)
+      ∙ ap (λ (o : Option (List (Option SpaceView))). option_map (λ spaces. slice_set spaces s (Some w)) (option_map (λ spaces. slice_set spaces s None) o)) told in
+      left_changed change views s u.0 v w new u.1 (same u.0 (told_at old views s u.0 told u.1)) made back;
 }
 
 pub run_of_space : (frame : Frame) (s first n : ℕ) (v : SpaceView) → IsRunIn frame s first n → IsOf frame s v → IsRunOf v first n

@@ -1,9 +1,9 @@
 -- Parts of a trace, one after the other, and what a search over spaces adds to it.
-use Rattle.std.proofs.Common.{inl, inr, ◌≡◌, ℕ, suc, zero, ◌+◌, ◌-◌, ◌<◌, ◌≤◌, Bool, true, false, List, [], ◌∷◌, ◌++◌, length, Option, Some, None, refl, sym, ap, ◌∙◌, subst, arith}
-use Rattle.std.proofs.lemmas.List.{append-nil, append_assoc}
+use Rattle.std.proofs.Common.{inl, inr, ◌≡◌, ℕ, suc, zero, ◌+◌, ◌-◌, ◌<◌, ◌≤◌, Bool, true, false, List, [], ◌∷◌, ◌++◌, length, map, reverse, Option, Some, None, refl, sym, ap, ◌∙◌, subst, arith}
+use Rattle.std.proofs.lemmas.List.{append-nil, append_assoc, map-append, reverse-append}
 use Rattle.std.proofs.lemmas.Bool.{cases_lt, cases_eq, false≢true, ne_eqb}
-use Rattle.std.specs.Prelude.{IsTrue, nat_eq, slice_get}
-use Rattle.superdirectory.specs.Trace.{Event, look_event, enter_event, Part, IsLow, IsCareful, one_where, looks_at, enters_of, AreVisits, IsTried, IsSearched, IsEntered, AreEnters}
+use Rattle.std.specs.Prelude.{IsTrue, nat_eq, slice_get, if◌then◌else◌}
+use Rattle.superdirectory.specs.Trace.{Event, look_event, enter_event, Part, IsLow, IsCareful, one_where, looks_at, enters_of, AreVisits, IsNothing, IsTried, IsSearched, looked, IsInTurn, IsEntered, AreAt, AreEnters}
 
 pub part_none : (P : List Event → Type 0) (t : Option (List Event)) → P [] → Part P t t
 part_none P None p = refl
@@ -19,6 +19,12 @@ part_then P Q R (Some before) b c both (p, e, here) second =
 pub part_as : (P Q : List Event → Type 0) (a b : Option (List Event)) → ((p : List Event) → P p → Q p) → Part P a b → Part Q a b
 part_as P Q None b more h = h
 part_as P Q (Some before) b more (p, e, here) = (p, e, more p here)
+
+-- one space was entered and left
+pub part_used : (space hint : ℕ) (a b c : Option (List Event)) → Part (λ part. part ≡ enter_event space hint ∷ []) a b → Part IsNothing b c → Part (IsEntered space) a c
+part_used space hint a b c enters leaves =
+    part_then (λ part. part ≡ enter_event space hint ∷ []) IsNothing (IsEntered space) a b c
+    (λ p q first second. (hint, ap (λ (l : List Event). l ++ q) first ∙ ap (λ (l : List Event). enter_event space hint ∷ l) second)) enters leaves
 
 -- an event of a row of two parts
 get_left : (p q : List Event) (i : ℕ) (e : Event) → slice_get p i ≡ Some e → slice_get (p ++ q) i ≡ Some e
@@ -42,7 +48,7 @@ pub low_right : (space order : ℕ) (p q : List Event) → IsLow space order q �
 low_right space order p q l = record { at = length p + l.at; event = l.event; here = get_right p q l.at ∙ l.here; of = l.of; low = l.low }
 
 careful_right : (order : ℕ) (p q : List Event) → IsCareful order q → (at space hint j : ℕ) → at ≡ length p + j → slice_get (p ++ q) at ≡ Some (enter_event space hint) →
-    (i : ℕ) × (seen : ℕ) × (i < at) × (slice_get (p ++ q) i ≡ Some (look_event space seen)) × (order < seen)
+    (i : ℕ) × (seen : ℕ) × (suc i ≡ at) × (slice_get (p ++ q) i ≡ Some (look_event space seen)) × (order < seen)
 careful_right order p q c at space hint j e h =
     let found = c.shown j space hint (sym (get_right p q j) ∙ ap (λ (k : ℕ). slice_get (p ++ q) k) (sym e) ∙ h) in
     (length p + found.0, found.1, omega (arith, found.2), get_right p q found.0 ∙ found.3, found.4)
@@ -104,12 +110,12 @@ tried_entered order s hint found refused enough low = record {
   low = λ r. record { at = 1; event = enter_event s found; here = refl; of = refl; low = low r };
 }
   where
-    after : (at space h : ℕ) → slice_get (look_event s hint ∷ enter_event s found ∷ []) at ≡ Some (enter_event space h) → (i : ℕ) × (seen : ℕ) × (i < at) × (slice_get (look_event s hint ∷ enter_event s found ∷ []) i ≡ Some (look_event space seen)) × (order < seen)
+    after : (at space h : ℕ) → slice_get (look_event s hint ∷ enter_event s found ∷ []) at ≡ Some (enter_event space h) → (i : ℕ) × (seen : ℕ) × (suc i ≡ at) × (slice_get (look_event s hint ∷ enter_event s found ∷ []) i ≡ Some (look_event space seen)) × (order < seen)
     after zero space h e = let same : look_event s hint ≡ enter_event space h = cc in absurd (false≢true (ap (λ (x : Event). x.enters) same))
     after (suc zero) space h e =
         let ev : enter_event s found ≡ enter_event space h = cc in
         let same : s ≡ space = ap (λ (x : Event). x.space) ev in
-        (0, hint, omega arith, ap (λ (x : ℕ). Some (look_event x hint)) same, enough)
+        (0, hint, refl, ap (λ (x : ℕ). Some (look_event x hint)) same, enough)
     after (suc (suc at)) space h e = cc
 
 pub searched_none : (order from : ℕ) → IsSearched order from from true []
@@ -175,6 +181,53 @@ searched_found_from order from to other end p low high a = record {
   ];
   low = λ r space low high. cc;
 }
+
+-- looks of two parts
+looked-append : (p q : List Event) → looked (p ++ q) ≡ looked p ++ looked q
+looked-append [] q = refl
+looked-append (e ∷ p) q =
+    let own : List ℕ = if e.enters then [] else e.space ∷ [] in
+    ap (λ (l : List ℕ). own ++ l) (looked-append p q) ∙ sym (append_assoc own (looked p) (looked q))
+
+-- no space is to be looked at
+pub turn_none : IsInTurn [] true []
+turn_none = record { later = []; order = refl; all = λ r. refl; last = λ e. cc }
+
+-- one space is looked at, and entered or not
+pub turn_low : (s hint : ℕ) → IsInTurn (s ∷ []) true (look_event s hint ∷ [])
+turn_low s hint = record { later = []; order = refl; all = λ r. refl; last = λ e. cc }
+
+pub turn_entered : (s hint found : ℕ) (refused : Bool) → IsInTurn (s ∷ []) refused (look_event s hint ∷ enter_event s found ∷ [])
+turn_entered s hint found refused = record { later = []; order = refl; all = λ r. refl; last = λ e. (look_event s hint ∷ [], s, found, refl) }
+
+-- some spaces that all refused, and then others
+pub turn_both : (xs ys : List ℕ) (refused : Bool) (p q : List Event) → IsInTurn xs true p → IsInTurn ys refused q → IsInTurn (xs ++ ys) refused (p ++ q)
+turn_both xs ys refused p q a b =
+    let whole : looked p ≡ xs = sym (append-nil (looked p)) ∙ ap (λ (l : List ℕ). looked p ++ l) (sym (a.all refl)) ∙ a.order in
+    record {
+      later = b.later;
+      order = ap (λ (l : List ℕ). l ++ b.later) (looked-append p q) ∙ append_assoc (looked p) (looked q) b.later
+          ∙ ap (λ (l : List ℕ). looked p ++ l) b.order ∙ ap (λ (l : List ℕ). l ++ ys) whole;
+      all = b.all;
+      last = λ e. let l = b.last e in (p ++ l.0, l.1, l.2, ap (λ (x : List Event). p ++ x) l.3 ∙ sym (append_assoc p l.0 (enter_event l.1 l.2 ∷ [])));
+    }
+
+-- behind the one that granted, none is looked at
+pub turn_stop : (xs ys : List ℕ) (p : List Event) → IsInTurn xs false p → IsInTurn (xs ++ ys) false p
+turn_stop xs ys p a = record {
+  later = a.later ++ ys;
+  order = sym (append_assoc (looked p) a.later ys) ∙ ap (λ (l : List ℕ). l ++ ys) a.order;
+  all = λ r. cc;
+  last = a.last;
+}
+
+-- one more space was entered
+pub at_more : (space : ℕ) (spaces : List ℕ) (p q : List Event) → AreAt (reverse spaces) p → IsEntered space q → AreAt (reverse (space ∷ spaces)) (p ++ q)
+at_more space spaces p q a (hint, e) =
+    map-append (λ (x : Event). x.space) p q
+    ∙ ap (λ (l : List ℕ). l ++ map (λ (x : Event). x.space) q) a
+    ∙ ap (λ (l : List Event). reverse spaces ++ map (λ (x : Event). x.space) l) e
+    ∙ sym (reverse-append (space ∷ []) spaces)
 
 pub enters_none : AreEnters []
 enters_none = record { each = λ at event h. cc }

@@ -3,7 +3,8 @@ use Rattle.std.specs.Prelude.{◌≡◌, ℕ, ◌+◌, ◌-◌, ◌<◌, ◌≤�
 use Rattle.page_port.specs.Pages.{IsSized}
 use Rattle.layout_model.specs.Grants.{Spot}
 use Rattle.space_directory.specs.SpaceView.{SpaceView, IsSpace, granted, given}
-use Rattle.superdirectory.specs.Rest.{Frame, Rest, IsOf}
+use Rattle.superdirectory.specs.Trace.{Event, Part, IsEntered}
+use Rattle.superdirectory.specs.Rest.{Frame, Rest, count, IsOf}
 
 -- the told spaces are these, and none is away
 abbrev pub AreTold : Rest → List SpaceView → Type 0
@@ -53,6 +54,13 @@ pub record IsChanged (views : List SpaceView) (space : ℕ) (change : SpaceView 
   pub was : SpaceView
   pub here : slice_get views space ≡ Some was
   pub now : AreTold new (slice_set views space (change was))
+
+-- One space was entered, used and left, and nothing else changed: that is the call's part of the trace, and the told
+-- spaces are as before, but for that one, which is what the function makes of it.
+pub record IsUsed (space : ℕ) (change : SpaceView → SpaceView) (old new : Rest) (before after : Option (List Event)) : Type 0 where
+  pub rest : IsAtRest old new
+  pub trace : Part (IsEntered space) before after
+  pub told : (views : List SpaceView) → AreTold old views → length views ≡ count old → IsChanged views space change new
 
 -- the runs of a list, each a space, its first page and its pages, lie in their spaces
 abbrev pub AreRunsIn : {A : Type 0} → (A → ℕ) → (A → ℕ) → (A → List (List ℕ)) → Bool → Frame → List A → Type 0

@@ -1,5 +1,5 @@
 -- What asking for a part by halves grants, and what it leaves.
-use Rattle.std.specs.Prelude.{◌≡◌, ℕ, ◌-◌, ◌*◌, ◌<◌, ◌≤◌, min, Bool, List, [], ◌∷◌, ◌++◌, length, map, sum_by, slice_index, slice_get, slice_set, Option, Some, None}
+use Rattle.std.specs.Prelude.{◌≡◌, ℕ, ◌+◌, ◌-◌, ◌*◌, ◌/◌, ◌<◌, ◌≤◌, min, Bool, true, false, List, [], ◌∷◌, ◌++◌, length, map, sum_by, slice_index, slice_get, slice_set, Option, Some, None}
 use Rattle.std.specs.List.{AllByRecursion}
 use Rattle.geometry_model.specs.Numbers.{Numbers}
 use Rattle.geometry_model.specs.Pages.{first_page}
@@ -8,7 +8,7 @@ use Rattle.block_model.specs.Place.{least_order}
 use Rattle.layout_model.specs.declared.extent.Extent.{Extent}
 use Rattle.layout_model.specs.Grants.{Spaces, Answer, Got, Refused, halved}
 use Rattle.space_directory.specs.SpaceView.{SpaceView, IsSpace, granted}
-use Rattle.superdirectory.specs.Trace.{Event, IsCareful, IsLow, AreEnters}
+use Rattle.superdirectory.specs.Trace.{Event, IsLow, IsSearched, AreEnters}
 use Rattle.superdirectory.specs.Rest.{Frame, Rest}
 use Rattle.superdirectory.specs.Grants.{AreTold, free_of, AreRunsIn}
 
@@ -32,12 +32,15 @@ IsTakenAll space first pages before (run ∷ runs) after =
     (v : SpaceView) × (slice_get before (space run) ≡ Some v) × IsSpace v × HasRun v.free (first run - v.first) (length (pages run))
     × IsTakenAll space first pages (slice_set before (space run) (granted v (first run - v.first) (length (pages run)))) runs after
 
--- the runs, or the refusal, are what the answer says, and the told spaces are without the runs
-pub record IsAnswered {A : Type 0} (space first : A → ℕ) (pages : A → List (List ℕ)) (views : List SpaceView) (answer : Answer (List Extent)) (refusal : Option ℕ) (runs : List A) (new : Rest) : Type 0 where
+-- the told spaces are without the runs; the answer is the refusal, or has the pages that they left free; and where the
+-- store is laid out as its numbers say, the extents of the answer are the runs
+pub record IsAnswered {A : Type 0} (space first : A → ℕ) (pages : A → List (List ℕ)) (views : List SpaceView) (laid : Type 0) (answer : Answer (List Extent)) (refusal : Option ℕ) (runs : List A) (new : Rest) : Type 0 where
   pub after : List SpaceView
   pub taken : IsTakenAll space first pages views runs after
   pub told : AreTold new after
-  pub same : answer ≡ outcome refusal (extents first pages runs) (free_of after)
+  pub listed : List Extent
+  pub same : answer ≡ outcome refusal listed (free_of after)
+  pub matched : laid → listed ≡ extents first pages runs
 
 -- p pages were asked for n pages at this threshold, and not cut
 pub record IsUncut (n threshold p : ℕ) : Type 0 where
@@ -51,10 +54,24 @@ pub record ArePieces {A : Type 0} (space first : A → ℕ) (pages : A → List 
   pub whole : sum_by (λ piece. length (pages piece)) pieces ≡ n
   pub least : AllByRecursion (λ piece. min n threshold ≤ length (pages piece)) pieces
 
--- the looks and enters of all grants: each enter comes after a look that showed room, and where p pages were
--- refused, each space was found low for them
+-- The looks and enters of asking for n pages by halves, one search of all spaces for each grant that `halved` of
+-- `layout_model` makes, in its order: one for all n pages; where they were refused, and are twice the threshold or
+-- more, those for the larger half and, once that was granted, those for the other half.
+pub data AreSearches (threshold count : ℕ) : ℕ → Option ℕ → List Event → Type 0 where
+  placed : (n : ℕ) (part : List Event) → IsSearched (least_order n) 0 count false part → AreSearches threshold count n None part
+  uncut : (n : ℕ) (part : List Event) → n < 2 * threshold → IsSearched (least_order n) 0 count true part →
+      AreSearches threshold count n (Some n) part
+  half_refused : (n p : ℕ) (whole first : List Event) → 2 * threshold ≤ n → IsSearched (least_order n) 0 count true whole →
+      AreSearches threshold count ((n + 1) / 2) (Some p) first → AreSearches threshold count n (Some p) (whole ++ first)
+  halves : (n : ℕ) (refusal : Option ℕ) (whole first second : List Event) → 2 * threshold ≤ n → IsSearched (least_order n) 0 count true whole →
+      AreSearches threshold count ((n + 1) / 2) None first → AreSearches threshold count (n / 2) refusal second →
+      AreSearches threshold count n refusal (whole ++ (first ++ second))
+
+-- the looks and enters of all grants: the searches for n pages and their halves, each space visited once at most in each
+-- and entered only after a look that showed room for what it asks; where p pages were refused, each space was found
+-- low for them
 pub record IsAsked (n threshold count : ℕ) (refusal : Option ℕ) (part : List Event) : Type 0 where
-  pub careful : IsCareful (least_order (min n threshold)) part
+  pub searches : AreSearches threshold count n refusal part
   pub low : (p : ℕ) → refusal ≡ Some p → (space : ℕ) → space < count → IsLow space (least_order p) part
 
 -- the looks and enters of all grants and, after a refusal alone, those that give the pieces back
@@ -74,5 +91,5 @@ pub record AddsPieces {A : Type 0} (space first : A → ℕ) (pages : A → List
   pub least : AllByRecursion (λ piece. min n threshold ≤ length (pages piece)) pieces
   pub whole : refusal ≡ None → sum_by (λ piece. length (pages piece)) pieces ≡ n
   pub refused : (p : ℕ) → refusal ≡ Some p → IsUncut n threshold p
-  pub told : (numbers : Numbers) (steps : ℕ) (views : List SpaceView) → n ≤ steps → IsLaid numbers frame.firsts → AreTold old views → length views ≡ length frame.firsts →
-      IsAnswered space first pages views (halved steps numbers start threshold n (free_of views)) refusal pieces new
+  pub told : (numbers : Numbers) (steps : ℕ) (views : List SpaceView) → n ≤ steps → AreTold old views → length views ≡ length frame.firsts →
+      IsAnswered space first pages views (IsLaid numbers frame.firsts) (halved steps numbers start threshold n (free_of views)) refusal pieces new

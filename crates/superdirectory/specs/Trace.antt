@@ -1,5 +1,5 @@
 -- The looks and enters of an object that reaches the spaces, in the order made, told or not.
-use Rattle.std.specs.Prelude.{◌≡◌, ℕ, ◌+◌, ◌<◌, ◌≤◌, ◌⊎◌, Bool, true, false, ◌&&◌, not, nat_eq, IsTrue, List, [], ◌∷◌, ◌++◌, slice_get, Option, Some, None}
+use Rattle.std.specs.Prelude.{◌≡◌, ℕ, suc, ◌+◌, ◌<◌, ◌≤◌, ◌⊎◌, Bool, true, false, ◌&&◌, not, nat_eq, IsTrue, List, [], ◌∷◌, ◌++◌, map, slice_get, if◌then◌else◌, Option, Some, None}
 
 -- a look at a space with the hint that it saw, or an enter with the hint of the space that it found
 pub record Event : Type 0 where
@@ -26,10 +26,10 @@ pub record IsLow (space order : ℕ) (part : List Event) : Type 0 where
   pub of : event.space ≡ space
   pub low : event.hint ≤ order
 
--- each enter in this part comes after a look at the same space, in this part, that showed a larger order
+-- each enter in this part comes right after a look at the same space, in this part, that showed this order or a larger one
 pub record IsCareful (order : ℕ) (part : List Event) : Type 0 where
   pub shown : (at space hint : ℕ) → slice_get part at ≡ Some (enter_event space hint) →
-      (i : ℕ) × (seen : ℕ) × (i < at) × (slice_get part i ≡ Some (look_event space seen)) × (order < seen)
+      (i : ℕ) × (seen : ℕ) × (suc i ≡ at) × (slice_get part i ≡ Some (look_event space seen)) × (order < seen)
 
 -- how many looks at a space there are in this part, and how many enters of it
 abbrev pub one_where : Bool → ℕ
@@ -49,6 +49,19 @@ pub record AreVisits (most space : ℕ) (part : List Event) : Type 0 where
   pub looks : looks_at space part ≤ most
   pub enters : enters_of space part ≤ most
 
+-- the spaces that were looked at in this part, in the order of the looks
+abbrev pub looked : List Event → List ℕ
+looked [] = []
+looked (e ∷ part) = (if e.enters then [] else e.space ∷ []) ++ looked part
+
+-- the spaces of the list were looked at in its order, up to some of them: up to the last one where they all
+-- refused, and else up to the one whose enter ends the part
+pub record IsInTurn (spaces : List ℕ) (refused : Bool) (part : List Event) : Type 0 where
+  pub later : List ℕ
+  pub order : looked part ++ later ≡ spaces
+  pub all : IsTrue refused → later ≡ []
+  pub last : refused ≡ false → (before : List Event) × (space : ℕ) × (hint : ℕ) × (part ≡ before ++ enter_event space hint ∷ [])
+
 -- nothing was added
 abbrev pub IsNothing : List Event → Type 0
 IsNothing part = part ≡ []
@@ -61,8 +74,8 @@ pub record IsTried (order space : ℕ) (refused : Bool) (part : List Event) : Ty
   pub alone : (other : ℕ) → (other ≡ space → ⊥) → AreVisits 0 other part
   pub low : IsTrue refused → IsLow space order part
 
--- the spaces from `from` up to `to` were tried in order, up to the first that wasn't refused: each of them is
--- visited once at most, and no other one
+-- the spaces from `from` up to `to` were tried, up to the first that wasn't refused: each of them is visited once
+-- at most, and no other one
 pub record IsSearched (order from to : ℕ) (refused : Bool) (part : List Event) : Type 0 where
   pub careful : IsCareful order part
   pub once : (space : ℕ) → AreVisits 1 space part
@@ -72,6 +85,10 @@ pub record IsSearched (order from to : ℕ) (refused : Bool) (part : List Event)
 -- one enter of the space, and nothing else
 abbrev pub IsEntered : ℕ → List Event → Type 0
 IsEntered space part = (hint : ℕ) × (part ≡ enter_event space hint ∷ [])
+
+-- one event of each of these spaces, in this order, and nothing else
+abbrev pub AreAt : List ℕ → List Event → Type 0
+AreAt spaces part = map (λ e. e.space) part ≡ spaces
 
 -- enters alone
 pub record AreEnters (part : List Event) : Type 0 where

@@ -1,29 +1,26 @@
 //! Pages given back, locked and unlocked in the space that has them. None of these calls takes
 //! memory, and each enters one space.
 
-ghost use Rattle.std.specs.Prelude.{◌≡◌, ◌-◌, ◌<◌, ◌≤◌, length, List, [], take, drop, None, vec_capacity};
+ghost use Rattle.std.specs.Prelude.{◌≡◌, ◌-◌, ◌<◌, ◌≤◌, length, List, [], map, reverse, take, drop, None, vec_capacity};
 ghost use Rattle.page_port.specs.Pages.{IsSized};
 ghost use Rattle.space_directory.specs.SpaceView.{SpaceView, given, locked_more, unlocked};
-ghost use Rattle.superdirectory.specs.Trace.{Part, IsEntered, AreEnters};
+ghost use Rattle.superdirectory.specs.Trace.{Part, IsEntered, AreAt, AreEnters};
 ghost use Rattle.superdirectory.specs.Rest.{count};
-ghost use Rattle.superdirectory.specs.Grants.{AreTold, IsAtRest, IsRunIn, IsChanged, AreRunsIn, IsGivenAll};
+ghost use Rattle.superdirectory.specs.Grants.{AreTold, IsAtRest, IsRunIn, IsUsed, AreRunsIn, IsGivenAll};
 
 use crate::latches::Latches;
 use page_port::Span;
 use space_directory::Segment;
 
 /// Gives a segment's pages back to its space: they are free there, and not locked.
-pub fn give<S: Span, L: Latches<S>>(latches: &mut L, turn: &mut L::Turn, segment: Segment<S>)
+fn give<S: Span, L: Latches<S>>(latches: &mut L, turn: &mut L::Turn, segment: Segment<S>)
     requires none { (L.rest latches.old).entered ≡ None }
     requires run { IsRunIn (L.rest latches.old).frame segment.space (S.start segment.span)
         (length (S.contents segment.span)) }
     requires sized { IsSized S.tells (L.rest latches.old).frame.page (S.contents segment.span) }
-    ensures rest { IsAtRest (L.rest latches.old) (L.rest latches.new) }
-    ensures trace { Part (IsEntered segment.space) (L.trace latches.old) (L.trace latches.new) }
-    ensures told { (views : List SpaceView) → AreTold (L.rest latches.old) views
-        → length views ≡ count (L.rest latches.old)
-        → IsChanged views segment.space (λ v. given v
-        (S.start segment.span - v.first) (length (S.contents segment.span))) (L.rest latches.new) }
+    ensures { IsUsed segment.space
+        (λ v. given v (S.start segment.span - v.first) (length (S.contents segment.span)))
+        (L.rest latches.old) (L.rest latches.new) (L.trace latches.old) (L.trace latches.new) }
 {
     let s = segment.space;
     let mut space = latches.enter(turn, s);
@@ -31,23 +28,17 @@ pub fn give<S: Span, L: Latches<S>>(latches: &mut L, turn: &mut L::Turn, segment
     latches.leave(s, space);
 }
 
-/// Gives a segment's pages back that were locked.
+/// Gives a segment's pages back that were locked: they are free there, and no longer locked.
 pub fn release<S: Span, L: Latches<S>>(latches: &mut L, turn: &mut L::Turn, segment: Segment<S>)
     requires none { (L.rest latches.old).entered ≡ None }
     requires run { IsRunIn (L.rest latches.old).frame segment.space (S.start segment.span)
         (length (S.contents segment.span)) }
     requires sized { IsSized S.tells (L.rest latches.old).frame.page (S.contents segment.span) }
-    ensures rest { IsAtRest (L.rest latches.old) (L.rest latches.new) }
-    ensures trace { Part (IsEntered segment.space) (L.trace latches.old) (L.trace latches.new) }
-    ensures told { (views : List SpaceView) → AreTold (L.rest latches.old) views
-        → length views ≡ count (L.rest latches.old)
-        → IsChanged views segment.space (λ v. given v
-        (S.start segment.span - v.first) (length (S.contents segment.span))) (L.rest latches.new) }
+    ensures { IsUsed segment.space
+        (λ v. given v (S.start segment.span - v.first) (length (S.contents segment.span)))
+        (L.rest latches.old) (L.rest latches.new) (L.trace latches.old) (L.trace latches.new) }
 {
-    let s = segment.space;
-    let mut space = latches.enter(turn, s);
-    space.give_locked(segment);
-    latches.leave(s, space);
+    give(latches, turn, segment);
 }
 
 /// Locks those of the `n` pages from `first` on of a space that aren't free.
@@ -60,11 +51,8 @@ pub fn lock_run<S: Span, L: Latches<S>>(
 )
     requires none { (L.rest latches.old).entered ≡ None }
     requires run { IsRunIn (L.rest latches.old).frame s first n }
-    ensures rest { IsAtRest (L.rest latches.old) (L.rest latches.new) }
-    ensures trace { Part (IsEntered s) (L.trace latches.old) (L.trace latches.new) }
-    ensures told { (views : List SpaceView) → AreTold (L.rest latches.old) views
-        → length views ≡ count (L.rest latches.old)
-        → IsChanged views s (λ v. locked_more v (first - v.first) n) (L.rest latches.new) }
+    ensures { IsUsed s (λ v. locked_more v (first - v.first) n)
+        (L.rest latches.old) (L.rest latches.new) (L.trace latches.old) (L.trace latches.new) }
 {
     let mut space = latches.enter(turn, s);
     space.lock(first, n);
@@ -81,11 +69,8 @@ pub fn unlock_run<S: Span, L: Latches<S>>(
 )
     requires none { (L.rest latches.old).entered ≡ None }
     requires run { IsRunIn (L.rest latches.old).frame s first n }
-    ensures rest { IsAtRest (L.rest latches.old) (L.rest latches.new) }
-    ensures trace { Part (IsEntered s) (L.trace latches.old) (L.trace latches.new) }
-    ensures told { (views : List SpaceView) → AreTold (L.rest latches.old) views
-        → length views ≡ count (L.rest latches.old)
-        → IsChanged views s (λ v. unlocked v (first - v.first) n) (L.rest latches.new) }
+    ensures { IsUsed s (λ v. unlocked v (first - v.first) n)
+        (L.rest latches.old) (L.rest latches.new) (L.trace latches.old) (L.trace latches.new) }
 {
     let mut space = latches.enter(turn, s);
     space.unlock(first, n);
@@ -104,6 +89,8 @@ pub fn give_all<S: Span, L: Latches<S>>(
     ensures empty { segments.new.items ≡ [] }
     ensures rest { IsAtRest (L.rest latches.old) (L.rest latches.new) }
     ensures trace { Part AreEnters (L.trace latches.old) (L.trace latches.new) }
+    ensures turn { Part (AreAt (reverse (map (λ g. g.space) segments.old.items)))
+        (L.trace latches.old) (L.trace latches.new) }
     ensures told { (views : List SpaceView) → AreTold (L.rest latches.old) views
         → length views ≡ count (L.rest latches.old)
         → ((after : List SpaceView) × AreTold (L.rest latches.new) after
@@ -128,6 +115,8 @@ pub(crate) fn give_from<S: Span, L: Latches<S>>(
     ensures room { vec_capacity segments.new ≡ vec_capacity segments.old }
     ensures rest { IsAtRest (L.rest latches.old) (L.rest latches.new) }
     ensures trace { Part AreEnters (L.trace latches.old) (L.trace latches.new) }
+    ensures turn { Part (AreAt (reverse (map (λ g. g.space) (drop from segments.old.items))))
+        (L.trace latches.old) (L.trace latches.new) }
     ensures told { (views : List SpaceView) → AreTold (L.rest latches.old) views
         → length views ≡ count (L.rest latches.old)
         → ((after : List SpaceView) × AreTold (L.rest latches.new) after

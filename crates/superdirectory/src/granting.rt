@@ -7,7 +7,7 @@ ghost use Rattle.block_model.specs.Place.{least_order};
 ghost use Rattle.block_model.specs.Block.{IsOrder};
 ghost use Rattle.layout_model.specs.Grants.{spot_in, around};
 ghost use Rattle.space_directory.specs.SpaceView.{SpaceView};
-ghost use Rattle.superdirectory.specs.Trace.{Part, IsSearched};
+ghost use Rattle.superdirectory.specs.Trace.{Part, IsSearched, IsInTurn};
 ghost use Rattle.superdirectory.specs.Rest.{count};
 ghost use Rattle.superdirectory.specs.Grants.{AreTold, free_of, IsAtRest, IsSegmentIn, IsExact};
 
@@ -19,9 +19,11 @@ use page_port::Span;
 use space_directory::Segment;
 
 /// Grants `n` pages in the first space, from `start` on and around, that has room. Each space is
-/// looked at once at most, and entered only where its hint showed room. `NoSpace` comes only
-/// where every space, at a look or an enter of this call, had no block for `n` pages; where the
-/// spaces are told, exactly where none of them has one. It takes no memory.
+/// looked at once at most, and entered only where its hint showed room. It takes no memory.
+///
+/// # Errors
+/// `NoSpace`, of `n` pages, comes only where every space, at a look or an enter of this call, had no
+/// block for them; where the spaces are told, exactly where none of them has one. Nothing changed.
 pub fn grant<S: Span, L: Latches<S>>(
     latches: &mut L,
     turn: &mut L::Turn,
@@ -37,9 +39,12 @@ pub fn grant<S: Span, L: Latches<S>>(
     ensures segment { IfOk result (λ g. IsSegmentIn (L.rest latches.old).frame n g.space
         (S.start g.span) (S.contents g.span) S.tells) }
 
-    // Each space is visited once at most, each enter follows a look that showed room, and a refusal
-    // found every space low.
+    // Each space is visited once at most, each enter comes right after a look that showed room, and
+    // a refusal found every space low. They are looked at in turn, and the grant ends the search.
     ensures trace { Part (IsSearched (least_order n) 0 (count (L.rest latches.old)) (is_err result))
+        (L.trace latches.old) (L.trace latches.new) }
+
+    ensures turn { Part (IsInTurn (around start (count (L.rest latches.old))) (is_err result))
         (L.trace latches.old) (L.trace latches.new) }
 
     // Where the spaces are told, the pages are those of the first place, and all else stays.
@@ -78,6 +83,8 @@ fn grant_between<S: Span, L: Latches<S>>(
     requires fits { n ≤ (L.rest latches.old).frame.pages }
     ensures rest { IsAtRest (L.rest latches.old) (L.rest latches.new) }
     ensures trace { Part (IsSearched order from to (is_none result)) (L.trace latches.old) (L.trace latches.new) }
+    ensures turn { Part (IsInTurn (range_with_len from (to - from)) (is_none result))
+        (L.trace latches.old) (L.trace latches.new) }
     ensures segment { IfSome result (λ g. IsSegmentIn (L.rest latches.old).frame n g.space
         (S.start g.span) (S.contents g.span) S.tells) }
     ensures exact { (views : List SpaceView) → AreTold (L.rest latches.old) views

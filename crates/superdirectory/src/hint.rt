@@ -33,5 +33,6 @@ impl Hint {
 /// No space has a block for that many pages.
 #[derive(Clone, Copy, Debug, PartialEq, Eq)]
 pub struct NoSpace {
+    /// The number of pages that were asked for in one piece.
     pub pages: u32,
 }

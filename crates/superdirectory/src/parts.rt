@@ -19,8 +19,11 @@ use space_directory::Segment;
 
 /// Grants `n` pages as one piece, or where no space has room for them, the larger half and then the
 /// smaller one in the same way, down to pieces of `threshold` pages. The pieces are appended to
-/// `into`. `NoSpace` names the pages of the first piece that was refused and not cut; it keeps
-/// nothing. It takes no memory.
+/// `into`. It takes no memory.
+///
+/// # Errors
+/// `NoSpace` names the pages of the first piece that was refused and not cut, fewer than twice
+/// `threshold`. The pieces before it are given back, and `into` is as before.
 pub fn grant_parts<S: Span, L: Latches<S>>(
     latches: &mut L,
     turn: &mut L::Turn,
@@ -48,11 +51,12 @@ pub fn grant_parts<S: Span, L: Latches<S>>(
         (option_map (λ e. e.pages) (result_err result))) (L.trace latches.old) (L.trace latches.new) }
 
     // Where the spaces are told, the pieces and what they leave are those of the rule of halves;
-    // a refusal leaves the spaces as they were.
+    // a refusal leaves the spaces as they were. That the spaces begin where the numbers say is asked
+    // only of the pages that the rule names.
     ensures exact { (numbers : Numbers) (views : List SpaceView)
-        → IsLaid numbers (L.rest latches.old).frame.firsts → AreTold (L.rest latches.old) views
-        → length views ≡ count (L.rest latches.old)
+        → AreTold (L.rest latches.old) views → length views ≡ count (L.rest latches.old)
         → IsAnswered (λ g. g.space) (λ g. S.start g.span) (λ g. S.contents g.span) views
+        (IsLaid numbers (L.rest latches.old).frame.firsts)
         (halved n numbers start threshold n (free_of views))
         (option_map (λ e. e.pages) (result_err result)) (drop (vec_len into.old) into.new.items)
         (L.rest latches.new) }
@@ -67,7 +71,10 @@ pub fn grant_parts<S: Span, L: Latches<S>>(
     }
 }
 
-/// Grants `n` pages by halves. A refusal leaves the pieces before it in `into`.
+/// Grants `n` pages by halves.
+///
+/// # Errors
+/// As of `grant_parts`, but the pieces before the refusal stay in `into`.
 fn grant_halved<S: Span, L: Latches<S>>(
     latches: &mut L,
     turn: &mut L::Turn,

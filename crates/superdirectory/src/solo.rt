@@ -52,7 +52,10 @@ impl<S: Span> Model for Solo<S> {
 
 impl<S: Span> Solo<S> {
     /// Takes over the spaces: 1 to 256 of them, in the order of their numbers, of one order and one
-    /// page size. A refusal is want of memory, and hands them back.
+    /// page size.
+    ///
+    /// # Errors
+    /// There was no memory. The spaces are handed back.
     pub fn new(alloc: Global, spaces: Vec<Space<S>>) -> Result<Solo<S>, Vec<Space<S>>>
         requires some { 1 ≤ length spaces.items }
         requires most { length spaces.items ≤ 256 }

@@ -201,6 +201,7 @@ fn halved(
 
 /// Places 9 to 15 of space 0 are free: the blocks 9, 10 to 11 and 12 to 15. Space 1 is full. So 5
 /// pages find no block of 8; 3 of them take the first of places 12 to 15, and 2 places 10 and 11.
+/// Each piece that is granted costs one enter, and one where it is given back; a refusal costs none.
 #[test]
 fn a_part_is_granted_in_halves(rt: HostRuntime) -> Result<(), Fail> {
     let alloc = rt.alloc();
@@ -211,13 +212,17 @@ fn a_part_is_granted_in_halves(rt: HostRuntime) -> Result<(), Fail> {
     let (answer, pieces) = halved(alloc, &mut latches, 5)?;
     assert!(rt; answer == Ok(()));
     assert_eq!(rt; pieces.as_slice(), [(15, 3), (13, 2)].as_slice());
+    assert_eq!(rt; latches.enters, [4, 0]);
     let (answer, pieces) = halved(alloc, &mut latches, 6)?;
     assert!(rt; answer == Err(NoSpace { pages: 3 }) && pieces.is_empty());
+    assert_eq!(rt; latches.enters, [6, 0]);
     let (answer, pieces) = halved(alloc, &mut latches, 8)?;
     assert!(rt; answer == Err(NoSpace { pages: 2 }) && pieces.is_empty());
+    assert_eq!(rt; latches.enters, [10, 0]);
     let (answer, pieces) = halved(alloc, &mut latches, 4)?;
     assert!(rt; answer == Ok(()));
     assert_eq!(rt; pieces.as_slice(), [(15, 4)].as_slice());
+    assert_eq!(rt; latches.enters, [12, 0]);
     Ok(())
 }
 

@@ -5,7 +5,7 @@ ghost use Rattle.block_model.specs.Place.{least_order};
 ghost use Rattle.block_model.specs.Block.{IsOrder};
 ghost use Rattle.layout_model.specs.Grants.{spot_in};
 ghost use Rattle.space_directory.specs.SpaceView.{SpaceView};
-ghost use Rattle.superdirectory.specs.Trace.{Part, IsTried};
+ghost use Rattle.superdirectory.specs.Trace.{Part, IsTried, IsInTurn};
 ghost use Rattle.superdirectory.specs.Rest.{count};
 ghost use Rattle.superdirectory.specs.Grants.{AreTold, free_of, IsAtRest, IsSegmentIn, IsExact};
 
@@ -28,6 +28,7 @@ pub fn try_space<S: Span, L: Latches<S>>(
     requires fits { n ≤ (L.rest latches.old).frame.pages }
     ensures rest { IsAtRest (L.rest latches.old) (L.rest latches.new) }
     ensures trace { Part (IsTried order s (is_none result)) (L.trace latches.old) (L.trace latches.new) }
+    ensures turn { Part (IsInTurn (s ∷ []) (is_none result)) (L.trace latches.old) (L.trace latches.new) }
     ensures segment { IfSome result (λ g. IsSegmentIn (L.rest latches.old).frame n g.space
         (S.start g.span) (S.contents g.span) S.tells) }
     ensures exact { (views : List SpaceView) → AreTold (L.rest latches.old) views

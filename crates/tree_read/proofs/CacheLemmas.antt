@@ -1,19 +1,36 @@
 -- Nodes that the cache keeps cost no page, and the nodes of a level are no more than the segments found.
 use Rattle.std.proofs.Common.{◌≡◌, ℕ, zero, suc, ◌+◌, ◌*◌, ◌≤◌, true, List, [], ◌∷◌, ◌++◌, length, refl, sym, ap, subst, ◌∙◌, append-nil, arith}
-use Rattle.std.specs.Prelude.{IsSome, is_some, nat_lt}
+use Rattle.std.specs.Prelude.{IfSome, IsSome, Option, Some, None, is_some, nat_lt}
 use Rattle.std.specs.List.{AllByRecursion}
 use Rattle.std.proofs.Math.Nat.{suc-mul}
-use Rattle.std.proofs.lemmas.Bool.{lt-ltb}
+use Rattle.std.proofs.lemmas.Bool.{false≢true, lt-ltb}
 use Rattle.tree_model.specs.declared.entry.Pair.{Pair}
 use Rattle.tree_model.specs.declared.entry.Placed.{Placed}
-use Rattle.tree_model.specs.Tree.{Pages, AreTrees, pairs_on}
+use Rattle.node_codec.specs.declared.parsed.Node.{Node}
+use Rattle.tree_model.specs.Node.{NodeBytes}
+use Rattle.tree_model.specs.Tree.{Pages, AreTrees, HasNode, bytes_of, pairs_on}
+use Rattle.tree_model.proofs.NodeLemmas.{node_in-level, node_in-pairs}
 use Rattle.tree_model.specs.Range.{in_range, is_in_range, pairs_of}
 use Rattle.page_port.specs.Counts.{Meter}
-use Rattle.page_cache.specs.Kept.{KeepsSame, KeptNodes, kept}
+use Rattle.page_cache.specs.Kept.{IsNodeOf, KeepsSame, KeptNodes, kept}
 use Rattle.tree_read.specs.Cost.{AreKept, CostsNothing, below, nodes_in_range}
 use Rattle.tree_read.specs.Search.{top}
 use Rattle.tree_read.proofs.TreeLemmas.{found, length-found}
 use Rattle.tree_read.proofs.LevelLemmas.{AreTrees-below, below-each, found-below, length-nodes, root_pair}
+
+-- a copy of a node that is kept stands on its page where the kept one does
+pub kept_node : (page : List ℕ) (o : Option Node) (n : Node) → IfSome o (λ k. NodeBytes page k.level k.pairs.items) → IfSome o (IsNodeOf n) → IsSome o → NodeBytes page n.level n.pairs.items
+kept_node page None n right same held = absurd (false≢true held)
+kept_node page (Some k) n right same held =
+    subst (λ (level : ℕ). NodeBytes page level n.pairs.items) (sym same.level)
+    (subst (λ (pairs : List Pair). NodeBytes page k.level pairs) (sym same.pairs) right)
+
+-- the node on a page is the one that is named
+pub named_node : (at : Pages) (page level bytes : ℕ) (n : Node) → HasNode at page level 0 bytes → NodeBytes (at page) n.level n.pairs.items → (n.level ≡ level) × (bytes_of n.pairs.items ≡ bytes)
+named_node at page level bytes n named node = (
+  sym (node_in-level (at page) n.level n.pairs.items node) ∙ named.is_level,
+  ap bytes_of (sym (node_in-pairs (at page) n.level n.pairs.items node)) ∙ named.counted,
+)
 
 -- no call
 pub CostsNothing-none : (cache : KeptNodes) (m : Meter) → CostsNothing cache cache m m

@@ -1,6 +1,6 @@
 -- What a search knows of the pages held and of the nodes kept, and what it does to the port.
 use Rattle.std.specs.Prelude.{◌≡◌, ℕ, ◌+◌, ◌^◌, ◌<◌, ◌≤◌, Bool, ◌&&◌, IsTrue, IfSome, List, [], ◌∷◌, nat_lt, if◌then◌else◌}
-use Rattle.page_port.specs.Counts.{Meter}
+use Rattle.page_port.specs.Counts.{IsUsed, Meter}
 use Rattle.tree_model.specs.Node.{NodeBytes, room_of}
 use Rattle.tree_model.specs.declared.entry.Placed.{Placed}
 use Rattle.tree_model.specs.declared.tree.Root.{Root}
@@ -13,18 +13,16 @@ pub record KeepsNodes (told : Bool) (size : ℕ) (at : Pages) (c : KeptNodes) : 
   pub small : HaveAtMost (room_of size) c
   pub right : IsTrue told → (page : ℕ) → IfSome (kept c page) (λ n. NodeBytes (at page) n.level n.pairs.items)
 
--- a port was read from: its page size stays, no page was written, and no fault was forgotten
+-- a port was used, and no page was written
 pub record Uses (old new : Meter) : Type 0 where
-  pub page : new.page ≡ old.page
+  pub used : IsUsed old new
   pub written : new.written ≡ old.written
-  pub faults : old.faults ≤ new.faults
 
 -- the same, and at most so many pages were read
 pub record Reads (most : ℕ) (old new : Meter) : Type 0 where
-  pub page : new.page ≡ old.page
+  pub used : IsUsed old new
   pub written : new.written ≡ old.written
   pub few : new.read ≤ old.read + most
-  pub faults : old.faults ≤ new.faults
 
 -- the segment ends within what a number of 8 bytes can count
 abbrev pub EndsInside : Placed → Type 0

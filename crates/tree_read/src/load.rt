@@ -1,6 +1,6 @@
 //! One node: from the cache or from its page, and checked against the pair that names it.
 
-ghost use Rattle.std.specs.Prelude.{◌≡◌, ℕ, ◌+◌, ◌^◌, ◌<◌, ◌≤◌, ◌↔◌, Bool, length, IsTrue, IsErr, IsSome, SomeIff, OnOk};
+ghost use Rattle.std.specs.Prelude.{◌≡◌, ℕ, ◌+◌, ◌^◌, ◌<◌, ◌≤◌, ◌↔◌, Bool, length, IsTrue, IsErr, IsSome, SomeIff, OnOk, OnErr};
 ghost use Rattle.geometry_model.specs.Numbers.{is_page_size};
 ghost use Rattle.page_port.specs.Counts.{HasCause, Meter};
 ghost use Rattle.tree_model.specs.Node.{HoldsNode, NodeBytes, room_of};
@@ -18,7 +18,9 @@ use page_cache::Cache;
 use page_port::{DeviceFault, Port};
 use span_store::Holdings;
 
-/// Reads the node of this level that a pair names, and checks that it has just the pair's bytes.
+/// Reads the node of this level that a pair names, from the cache or else from the device, and checks that
+/// it has just the pair's bytes. The cache keeps it for the next time once it is checked, so that a page
+/// that was read wrongly is read anew.
 pub fn load<P: Port>(
     held: &Holdings<P::S>,
     cache: &mut Cache,
@@ -37,47 +39,34 @@ pub fn load<P: Port>(
         → scratch.new.node.pairs.items ≡ pairs_on (bytes_on held.now) pair.page) }
     ensures prepared { IsPrepared (P.meter port.old).page scratch.new }
     ensures kept { KeepsNodes P.S.tells (P.meter port.old).page (bytes_on held.now) cache.new }
+    ensures unchanged { OnErr result (KeepsSame cache.old cache.new) }
     ensures reads { Reads 1 (P.meter port.old) (P.meter port.new) }
     ensures cached { IsSome (kept cache.old pair.page)
         → CostsNothing cache.old cache.new (P.meter port.old) (P.meter port.new) }
     ensures cause { HasCause (P.meter port.old).faults (P.meter port.new).faults (IsErr result) }
 {
-    node_on(held, cache, port, pair.page, scratch)?;
-    if is_named(&scratch.node, level, pair.bytes) {
+    if cache.get(pair.page, &mut scratch.node) {
+        return check(port, &scratch.node, level, pair.bytes);
+    }
+    fetch(held, port, pair.page, &mut scratch.page, &mut scratch.node)?;
+    check(port, &scratch.node, level, pair.bytes)?;
+    cache.keep(pair.page, &scratch.node);
+    Ok(())
+}
+
+/// Counts a fault where the node isn't of this level, or hasn't just so many bytes under its pairs.
+fn check<P: Port>(port: &mut P, node: &Node, level: u8, bytes: u64) -> Result<(), DeviceFault>
+    requires level { IsTrue P.S.tells → node.now.level ≡ level }
+    requires bytes { IsTrue P.S.tells → bytes_of node.now.pairs.items ≡ bytes }
+    ensures sum { OnOk result (bytes_of node.now.pairs.items ≡ bytes) }
+    ensures reads { Reads 0 (P.meter port.old) (P.meter port.new) }
+    ensures cause { HasCause (P.meter port.old).faults (P.meter port.new).faults (IsErr result) }
+{
+    if is_named(node, level, bytes) {
         return Ok(());
     }
     port.blame();
     Err(DeviceFault)
-}
-
-/// Takes the node on a page from the cache, or else from the device for the next time.
-fn node_on<P: Port>(
-    held: &Holdings<P::S>,
-    cache: &mut Cache,
-    port: &mut P,
-    page: u32,
-    scratch: &mut Scratch,
-) -> Result<(), DeviceFault>
-    requires page_size { IsTrue (is_page_size (P.meter port.old).page) }
-    requires sized { AllSized P.S.tells (P.meter port.old).page held.now }
-    requires prepared { IsPrepared (P.meter port.old).page scratch.old }
-    requires kept { KeepsNodes P.S.tells (P.meter port.old).page (bytes_on held.now) cache.old }
-    requires told { IsTrue P.S.tells → HoldsNode (bytes_on held.now page) }
-    ensures told { OnOk result (IsTrue P.S.tells
-        → NodeBytes (bytes_on held.now page) scratch.new.node.level scratch.new.node.pairs.items) }
-    ensures prepared { IsPrepared (P.meter port.old).page scratch.new }
-    ensures kept { KeepsNodes P.S.tells (P.meter port.old).page (bytes_on held.now) cache.new }
-    ensures reads { Reads 1 (P.meter port.old) (P.meter port.new) }
-    ensures cached { IsSome (kept cache.old page)
-        → CostsNothing cache.old cache.new (P.meter port.old) (P.meter port.new) }
-    ensures cause { HasCause (P.meter port.old).faults (P.meter port.new).faults (IsErr result) }
-{
-    if cache.get(page, &mut scratch.node) {
-        return Ok(());
-    }
-    fetch(held, port, page, &mut scratch.page, &mut scratch.node)?;
-    cache.keep(page, &scratch.node);
-    Ok(())
 }
 
 /// Reads the node on a page from the device, by way of `bytes`, which has room for the page.

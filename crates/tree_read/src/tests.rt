@@ -220,3 +220,20 @@ fn a_page_that_is_not_its_node_is_a_fault(rt: HostRuntime) {
         assert_eq!(rt; port.faults, 1, "{level} {count} {bytes}");
     }
 }
+
+#[test]
+fn a_page_that_was_read_wrongly_is_read_anew(rt: HostRuntime) {
+    for (level, bytes) in [(2, 100), (1, 99)] {
+        let mut port = port_of(&rt, rt.alloc());
+        let root = two_nodes(&mut port);
+        let mut cache = cache_of(&rt, rt.alloc());
+        put_node(&mut port, 1, level, 10, bytes, 110);
+        let wrong = range_of(&rt, rt.alloc(), &root, &mut cache, &mut port, (0, 2000));
+        assert!(rt; matches!(wrong, Err(TreeFail::Fault)), "{level} {bytes}");
+        assert_eq!(rt; (port.faults, port.read), (1, 3), "{level} {bytes}");
+        put_node(&mut port, 1, 1, 10, 100, 110);
+        let right = range_of(&rt, rt.alloc(), &root, &mut cache, &mut port, (0, 2000)).is_ok();
+        assert!(rt; right, "{level} {bytes}");
+        assert_eq!(rt; (port.faults, port.read), (1, 4), "{level} {bytes}");
+    }
+}

@@ -1,3 +1,4 @@
+pub mod Aborting
 pub mod Closing
 pub mod Counts
 pub mod Deeds

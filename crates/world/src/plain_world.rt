@@ -9,6 +9,7 @@ ghost use Rattle.history.specs.Event.{Closes};
 ghost use Rattle.machine.specs.Machine.{AtRest, is_active, database, fresh};
 ghost use Rattle.machine.specs.Next.{next};
 ghost use Rattle.machine.specs.Replies.{IsStep};
+ghost use Rattle.world.specs.Ending.{aborted, all_aborted};
 ghost use Rattle.world.specs.Session.{begin_reply};
 
 use crate::ending::end;
@@ -41,7 +42,8 @@ impl Model for PlainWorld {
 }
 
 impl PlainWorld {
-    /// So many absent objects, and no session with a transaction open.
+    /// So many absent objects, and no session with a transaction open. `AllocError` says that there
+    /// was no memory for the objects or for the places of the sessions.
     pub fn new(alloc: Global, objects: u32) -> Result<PlainWorld, AllocError>
         ensures first { IfOk result (λ world. world ≡ fresh SESSIONS (replicate objects Absent)) }
         ensures rest { IfOk result (λ world. AtRest world) }
@@ -57,7 +59,8 @@ impl PlainWorld {
         })
     }
 
-    /// Runs a command of a session.
+    /// Runs a command of session 1 to 64 and gives its reply: the first refusal, else the object's
+    /// own answer. `Memory` comes only where an object would have answered, and changes nothing.
     pub fn step(&mut self, session: u32, command: Command) -> Reply
         requires from_one { 0 < session }
         requires upto { session ≤ SESSIONS }
@@ -105,7 +108,8 @@ impl PlainWorld {
     fn close(&mut self, session: u32, committed: bool) -> Reply
         requires from_one { 0 < session }
         requires upto { session ≤ SESSIONS }
-        ensures step { IsStep self.old session (if committed then Commit else Abort) result self.new }
+        ensures step { IsStep self.old session
+            (if committed then Commit else Abort) result self.new }
         ensures sessions { length self.new.seats ≡ SESSIONS }
     {
         if !self.is_open(session) {
@@ -148,19 +152,22 @@ impl PlainWorld {
 
     /// Aborts each open transaction, in the order of sessions. It takes no memory.
     pub fn finish(&mut self)
+        ensures state { self.new ≡ all_aborted SESSIONS self.old }
         ensures rest { AtRest self.new }
         ensures database { database self.new ≡ database self.old }
     {
         for place in 0..SESSIONS {
             self.stop(place + 1);
         }
-        let _ = &self.objects;
+        // With nothing open nothing is held: the type keeps that, for all of its sessions.
+        prove!(self.sessions.len() == SESSIONS as usize);
     }
 
     /// Aborts the transaction of a session, if one is open.
     fn stop(&mut self, session: u32)
         requires from_one { 0 < session }
         requires upto { session ≤ SESSIONS }
+        ensures state { self.new ≡ aborted session self.old }
         ensures closed { is_active self.new session ≡ false }
         ensures others { (t : ℕ) → is_active self.old t ≡ false → is_active self.new t ≡ false }
         ensures database { database self.new ≡ database self.old }

@@ -60,9 +60,12 @@ fn command(alloc: Global, ask: &Ask) -> Result<Command, AllocError> {
     })
 }
 
-/// Runs the lines over 32 absent objects, and compares each reply.
-fn run(rt: &(impl Abort + AllocGlobal), lines: &[(u32, Ask, &str)]) -> Result<(), Fail> {
-    let mut world = PlainWorld::new(rt.alloc(), 32)?;
+/// Runs the lines, and compares each reply.
+fn steps(
+    rt: &(impl Abort + AllocGlobal),
+    world: &mut PlainWorld,
+    lines: &[(u32, Ask, &str)],
+) -> Result<(), Fail> {
     for (session, ask, want) in lines {
         let session = *session;
         assert!(rt; 0 < session && session <= 64);
@@ -70,8 +73,13 @@ fn run(rt: &(impl Abort + AllocGlobal), lines: &[(u32, Ask, &str)]) -> Result<()
         let text = format!(in rt.alloc(); "{reply:?}")?;
         assert_eq!(rt; text.as_str(), *want);
     }
-    world.finish();
     Ok(())
+}
+
+/// Runs the lines over 32 absent objects.
+fn run(rt: &(impl Abort + AllocGlobal), lines: &[(u32, Ask, &str)]) -> Result<(), Fail> {
+    let mut world = PlainWorld::new(rt.alloc(), 32)?;
+    steps(rt, &mut world, lines)
 }
 
 #[test]
@@ -125,6 +133,37 @@ fn an_edit_is_others_after_its_commit_and_nobodys_after_an_abort(
             ),
             (3, Ask::Insert(0, 4, b"!"), "Ok"),
             (3, Ask::Length(0), "Length(5)"),
+        ],
+    )
+}
+
+#[test]
+fn the_end_aborts_what_is_open_and_lets_it_go(rt: HostRuntime) -> Result<(), Fail> {
+    let mut world = PlainWorld::new(rt.alloc(), 32)?;
+    steps(
+        &rt,
+        &mut world,
+        &[
+            (1, Ask::Begin, "Ok"),
+            (1, Ask::Create(0), "Ok"),
+            (1, Ask::Append(0, b"A"), "Ok"),
+            (1, Ask::Commit, "Ok"),
+            (1, Ask::Begin, "Ok"),
+            (1, Ask::Append(0, b"B"), "Ok"),
+            (64, Ask::Begin, "Ok"),
+            (64, Ask::Create(1), "Ok"),
+        ],
+    )?;
+    world.finish();
+    steps(
+        &rt,
+        &mut world,
+        &[
+            (1, Ask::Commit, "Idle"),
+            (64, Ask::Abort, "Idle"),
+            (2, Ask::Begin, "Ok"),
+            (2, Ask::Length(0), "Length(1)"),
+            (2, Ask::Length(1), "Missing"),
         ],
     )
 }

@@ -19,10 +19,10 @@ returns-in-Ok-clause-done g c =
 
 pub returns-in-Err-Fault-clause-cut : goal.returns-in-Err-Fault-clause-cut
 returns-in-Err-Fault-clause-cut g c =
-    let P : List ℕ → Type 0 = λ script. Broken (script_lines script) (g.O.Sink.written c.args.output.now) (g.O.Sink.written c.run_script.new.output) in
+    let P : List ℕ → Type 0 = λ script. Broken start (script_lines script) (g.O.Sink.written c.args.output.now) (g.O.Sink.written c.run_script.new.output) in
     λ _. inr (cut_short c.in_ok-script.script.items _ _ _ _ c.in_ok-script.ensures.all c.in_ok-script.ensures.short (subst P c.deref.ensures.value c.in-Err-Fault.ensures.broken))
 
 pub returns-clause-cut : goal.returns-clause-cut
 returns-clause-cut g c =
-    let P : List ℕ → Type 0 = λ script. Broken (script_lines script) (g.O.Sink.written c.args.output.now) (g.O.Sink.written c.run_script.new.output) in
+    let P : List ℕ → Type 0 = λ script. Broken start (script_lines script) (g.O.Sink.written c.args.output.now) (g.O.Sink.written c.run_script.new.output) in
     λ _. inr (cut_short c.in_ok-script.script.items _ _ _ _ c.in_ok-script.ensures.all c.in_ok-script.ensures.short (subst P c.deref.ensures.value c.in-Err-Memory.ensures.broken))

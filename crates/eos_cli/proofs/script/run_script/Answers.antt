@@ -1,31 +1,28 @@
-use Rattle.std.proofs.Common.{◌≡◌, ◌≤◌, ℕ, List, ◌∷◌, length, refl, sym, ap, ◌∙◌, subst, arith}
+-- The first world is the machine at its start.
+use Rattle.std.proofs.Common.{◌≡◌, [], subst}
+use Rattle.eos_ops.specs.declared.limits.TheConstants.{SESSIONS}
 use Rattle.machine.specs.Machine.{Machine}
 use Rattle.script_model.specs.Transcript.{script_lines}
-use Rattle.eos_cli.specs.Served.{Served, start}
-use Rattle.eos_cli.proofs.ServedLemmas.{served-none, served-line, broken-none}
+use Rattle.world.specs.Ending.{all_aborted}
+use Rattle.eos_cli.specs.Served.{Broken, Served}
+use Rattle.eos_cli.proofs.LineRunLemmas.{on_ok, on_err}
+use Rattle.eos_cli.proofs.ServedLemmas.{broken-none}
 use Rattle.eos_cli.proofs.script.run_script.Goals as goal
 
-pub lines-init : goal.lines-init
-lines-init g c =
-    let all = script_lines c.args.script.now in
-    let before = g.O.Sink.written c.args.output.now in
-    let P : Machine → Type 0 = λ m. Served start all all before before m in
-    record {
-      served = subst P (sym c.in-Ok.ensures.first) (served-none start all before);
-      sessions = ap (λ m. length m.seats) c.in-Ok.ensures.first;
-      faults = omega arith;
-    }
-
-pub lines-preserved : goal.lines-preserved
-lines-preserved g c =
-    let all = script_lines c.args.script.now in
-    let before = g.O.Sink.written c.args.output.now in
-    let P : List (List ℕ) → Type 0 = λ rest. Served start all rest before (g.O.Sink.written c.lines.output) c.lines.world in
-    record {
-      served = served-line start all _ _ before _ _ _ _ (subst P c.cut_line.ensures.cut c.lines.invariant.served) c.in_ok-run_line.ensures.ran;
-      sessions = c.run_line.ensures.sessions;
-      faults = omega (arith, c.lines.invariant.faults, c.run_line.ensures.cause.kept);
-    }
-
 pub returns-in-Err-clause-broken : goal.returns-in-Err-clause-broken
-returns-in-Err-clause-broken g c = broken-none (script_lines c.args.script.now) (g.O.Sink.written c.args.output.now)
+returns-in-Err-clause-broken g c = broken-none _ (script_lines c.args.script.now) (g.O.Sink.written c.args.output.now)
+
+pub returns-clause-ran : goal.returns-clause-ran
+returns-clause-ran g c =
+    let all = script_lines c.args.script.now in
+    let before = g.O.Sink.written c.args.output.now in
+    let after = g.O.Sink.written c.run_to_rest.new.output in
+    let P : Machine → Machine → Type 0 = λ last first. Served first all [] before after last in
+    on_ok c.run_to_rest.result
+    (λ (ran : (last : Machine) × (Served _ all [] before after last × (c.run_to_rest.new.world ≡ all_aborted SESSIONS last))). (ran.0, subst (P ran.0) c.in-Ok.ensures.first ran.1.0))
+    c.run_to_rest.ensures.ran
+
+pub returns-clause-broken : goal.returns-clause-broken
+returns-clause-broken g c =
+    let P : Machine → Type 0 = λ m. Broken m (script_lines c.args.script.now) (g.O.Sink.written c.args.output.now) (g.O.Sink.written c.run_to_rest.new.output) in
+    on_err c.run_to_rest.result (subst P c.in-Ok.ensures.first) c.run_to_rest.ensures.broken

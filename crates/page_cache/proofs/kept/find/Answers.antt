@@ -1,5 +1,5 @@
 -- To be the one used last changes no page's node.
-use Rattle.std.proofs.Common.{◌≡◌, ℕ, nat_eq, IfSome, IsSome, IsTrue, Option, subst, length}
+use Rattle.std.proofs.Common.{◌≡◌, ℕ, nat_eq, IfSome, IsSome, IsTrue, Option, refl, subst, length}
 use Rattle.std.specs.Map.{lookup}
 use Rattle.node_codec.specs.declared.parsed.Node.{Node}
 use Rattle.page_cache.specs.Kept.{IsNodeOf}
@@ -11,6 +11,9 @@ copy_of-requires c = rw (c.promote.ensures.entries, lookup-promoted c.args.page 
 
 pub returns-clause-same : goal.returns-clause-same
 returns-clause-same c = λ q. rw c.promote.ensures.entries (lookup-promoted q c.args.page c.args.nodes.now.entries)
+
+pub returns-clause-used : goal.returns-clause-used
+returns-clause-used c = rw c.promote.ensures.entries refl
 
 pub returns-clause-count : goal.returns-clause-count
 returns-clause-count c = rw c.promote.ensures.entries (length-promoted c.args.page c.args.nodes.now.entries)

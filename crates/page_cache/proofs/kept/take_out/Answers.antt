@@ -18,5 +18,8 @@ pub returns-then-len-gt0-clause-others : goal.returns-then-len-gt0-clause-others
 returns-then-len-gt0-clause-others c = λ q other.
     rw c.pop.ensures.entries (lookup-remove_other q c.args.page c.args.nodes.now.entries other)
 
+pub returns-then-len-gt0-clause-order : goal.returns-then-len-gt0-clause-order
+returns-then-len-gt0-clause-order c = rw c.pop.ensures.entries refl
+
 pub returns-then-len-gt0-clause-fewer : goal.returns-then-len-gt0-clause-fewer
 returns-then-len-gt0-clause-fewer c = rw c.pop.ensures.entries (length-removed c.args.page c.args.nodes.now.entries)

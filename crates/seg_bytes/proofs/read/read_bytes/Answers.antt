@@ -14,7 +14,12 @@ returns-in_err-read_here-clause-reads g c =
     IsReading-stop g.P.S.Span.tells (bytes_on c.args.held.now) (g.P.Port.meter c.args.port.now).page (g.P.Port.meter c.loop-segment.port).page (c.args.at - start_of c.args.placed.now) (length c.args.out.now) c.args.placed.now
     c.loop-segment.segment-index c.loop-segment.done c.loop-segment.skip c.bytes_here-count.result c.loop-segment.out c.read_here.new.out (g.P.Port.meter c.args.port.now) (g.P.Port.meter c.loop-segment.port) (g.P.Port.meter c.read_here.new.port)
     c.loop-segment.invariant (omega arith) c.loop-segment.auto.out
-    (record { same = c.loop-segment.invariant.reads.page; count_is = c.bytes_here-count.ensures; reads = c.in_err-read_here.ensures.reads })
+    (record { same = c.loop-segment.invariant.reads.used.page; count_is = c.bytes_here-count.ensures; reads = c.in_err-read_here.ensures.reads })
+
+pub read_here-requires-clause-numbers : goal.read_here-requires-clause-numbers
+read_here-requires-clause-numbers g c κs within q held =
+    let below = c.end-end.ensures q held in
+    omega (arith, below)
 
 pub loop-segment-preserved : goal.loop-segment-preserved
 loop-segment-preserved g c =
@@ -23,7 +28,7 @@ loop-segment-preserved g c =
     IsReading-turn g.P.S.Span.tells (bytes_on c.args.held.now) (g.P.Port.meter c.args.port.now).page (g.P.Port.meter c.loop-segment.port).page (c.args.at - start_of c.args.placed.now) (length c.args.out.now) c.args.placed.now
     c.loop-segment.segment-index c.loop-segment.done c.loop-segment.skip c.saturating_sub-skip.result c.bytes_here-count.result c.loop-segment.out c.read_here.new.out (g.P.Port.meter c.args.port.now) (g.P.Port.meter c.loop-segment.port) (g.P.Port.meter c.read_here.new.port)
     c.loop-segment.invariant less c.loop-segment.auto.out
-    (record { same = c.loop-segment.invariant.reads.page; count_is = c.bytes_here-count.ensures; reads = c.in_ok-read_here.ensures.reads })
+    (record { same = c.loop-segment.invariant.reads.used.page; count_is = c.bytes_here-count.ensures; reads = c.in_ok-read_here.ensures.reads })
     c.saturating_sub-skip.ensures
     (λ told. length-segment (bytes_on c.args.held.now) (g.P.Port.meter c.args.port.now).page (get_or c.args.placed.now c.loop-segment.segment-index no_segment).pair c.requires.some
     (AreFull-held g.P.S.Span.tells (g.P.Port.meter c.args.port.now).page (get_or c.args.placed.now c.loop-segment.segment-index no_segment).pair.page

@@ -1,5 +1,5 @@
 -- A part of a segment lies in the run of its pages.
-use Rattle.std.proofs.Common.{◌≡◌, ◌+◌, length, take, drop, ◌∙◌, arith}
+use Rattle.std.proofs.Common.{◌≡◌, ◌+◌, ◌-◌, ◌^◌, length, take, drop, ◌∙◌, arith}
 use Rattle.std.specs.Prelude.{IsTrue}
 use Rattle.tree_model.specs.Tree.{page_count}
 use Rattle.tree_model.specs.Content.{run_bytes}
@@ -15,7 +15,7 @@ returns-then-is_empty-clause-reads g c = Reads-none _ _
 pub read_from-requires-clause-held : goal.read_from-requires-clause-held
 read_from-requires-clause-held g c κs within =
     HasBytes-less c.args.held.now (g.P.Port.meter c.args.port.now).page c.args.pair.page (c.args.skip + length c.args.out.now) c.args.pair.bytes c.requires.some
-    (HasBytes-end c.args.held.now (g.P.Port.meter c.args.port.now).page c.args.pair.page c.args.pair.bytes c.end-end.result (omega arith) c.requires.held c.end-end.ensures (omega arith))
+    (HasBytes-end c.args.held.now (g.P.Port.meter c.args.port.now).page c.args.pair.page c.args.pair.bytes (2 ^ 32 - 1) (omega arith) c.requires.held c.requires.numbers (omega arith))
     (c.requires.inside (some_left (length c.args.out.now) c.is_empty.result c.is_empty.ensures c.if-is_empty.false))
 
 pub returns-clause-bytes : goal.returns-clause-bytes

@@ -29,12 +29,12 @@ pub read_front-requires-2-clause-held : goal.read_front-requires-2-clause-held
 read_front-requires-2-clause-held g c κs within =
     let left : length c.split_at_mut-front.result.1.now ≡ length c.args.out.now - c.min-head.result = omega (arith, c.split_at_mut-front.ensures.back_len) in
     behind_first c.args.held.now (g.P.Port.meter c.args.port.now).page c.page-size.result (g.P.Port.meter c.read_part.new.port).page c.args.first c.args.skip (length c.args.out.now) c.min-head.result (length c.split_at_mut-front.result.1.now)
-    c.requires.some c.page-size.ensures c.in_ok-read_part.ensures.reads.page c.requires.held c.if-from-eq0.false c.min-head.ensures left
+    c.requires.some c.page-size.ensures c.in_ok-read_part.ensures.reads.used.page c.requires.held c.if-from-eq0.false c.min-head.ensures left
 
 pub returns-clause-bytes : goal.returns-clause-bytes
 returns-clause-bytes g c =
     let left : length c.split_at_mut-front.result.1.now ≡ length c.args.out.now - c.min-head.result = omega (arith, c.split_at_mut-front.ensures.back_len) in
-    let same : (g.P.Port.meter c.read_part.new.port).page ≡ (g.P.Port.meter c.args.port.now).page = c.in_ok-read_part.ensures.reads.page in
+    let same : (g.P.Port.meter c.read_part.new.port).page ≡ (g.P.Port.meter c.args.port.now).page = c.in_ok-read_part.ensures.reads.used.page in
     OnOk-map _ _ c.read_front-2.result
     (λ (read : IsTrue g.P.S.Span.tells → c.read_front-2.new.out ≡ take (length c.split_at_mut-front.result.1.now) (run_bytes (bytes_on c.args.held.now) (c.args.first + c.args.skip / c.page-size.result + 1) (page_count (g.P.Port.meter c.read_part.new.port).page (length c.split_at_mut-front.result.1.now)))) told.
     read_odd (bytes_on c.args.held.now) (g.P.Port.meter c.args.port.now).page c.page-size.result c.args.first c.args.skip (length c.args.out.now) c.min-head.result c.read_part.new.out c.read_front-2.new.out
@@ -50,7 +50,7 @@ returns-clause-bytes g c =
 pub returns-clause-reads : goal.returns-clause-reads
 returns-clause-reads g c =
     let left : length c.split_at_mut-front.result.1.now ≡ length c.args.out.now - c.min-head.result = omega (arith, c.split_at_mut-front.ensures.back_len) in
-    let same : (g.P.Port.meter c.read_part.new.port).page ≡ (g.P.Port.meter c.args.port.now).page = c.in_ok-read_part.ensures.reads.page in
+    let same : (g.P.Port.meter c.read_part.new.port).page ≡ (g.P.Port.meter c.args.port.now).page = c.in_ok-read_part.ensures.reads.used.page in
     let front : min 1 (length c.split_at_mut-front.result.0.now) ≡ min 1 c.min-head.result = ap (min 1) c.split_at_mut-front.ensures.front_len in
     let rest : page_count (g.P.Port.meter c.read_part.new.port).page (length c.split_at_mut-front.result.1.now) ≡ page_count (g.P.Port.meter c.args.port.now).page (length c.args.out.now - c.min-head.result) =
     ap (λ (k : ℕ). page_count k (length c.split_at_mut-front.result.1.now)) same ∙ ap (page_count (g.P.Port.meter c.args.port.now).page) left in

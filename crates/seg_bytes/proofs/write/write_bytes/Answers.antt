@@ -22,7 +22,7 @@ write_whole-requires-clause-even g c κs within =
 pub returns-clause-bytes : goal.returns-clause-bytes
 returns-clause-bytes g c =
     let size : ℕ = (g.P.Port.meter c.args.port.now).page in
-    let same : (g.P.Port.meter c.write_whole.new.port).page ≡ (g.P.Port.meter c.args.port.now).page = c.in_ok-write_whole.ensures.writes.page in
+    let same : (g.P.Port.meter c.write_whole.new.port).page ≡ (g.P.Port.meter c.args.port.now).page = c.in_ok-write_whole.ensures.writes.used.page in
     let pages : length c.args.bytes.now / c.page-size.result ≡ length c.args.bytes.now / (g.P.Port.meter c.args.port.now).page = ap (λ (k : ℕ). length c.args.bytes.now / k) c.page-size.ensures in
     let front = whole_part (length c.args.bytes.now) (g.P.Port.meter c.args.port.now).page (length c.split_at.result.0.now) c.requires.some
     (c.split_at.ensures.front_len ∙ ap (λ (k : ℕ). length c.args.bytes.now / k * k) c.page-size.ensures) in

@@ -1,11 +1,11 @@
 -- The last segment is popped and given; those before it are still to come.
-use Rattle.std.proofs.Common.{◌≡◌, ◌≤◌, List, [], ◌∷◌, ◌++◌, length, drop, sym, ap, ◌∙◌, subst, arith}
+use Rattle.std.proofs.Common.{◌≡◌, ◌≤◌, List, [], ◌∷◌, ◌++◌, length, map, reverse, drop, sym, ap, ◌∙◌, subst, arith}
 use Rattle.std.proofs.lemmas.List.{append_assoc, drop-append-le, drop_at}
 use Rattle.page_port.specs.Pages.{IsSized}
-use Rattle.superdirectory.specs.Trace.{AreEnters, IsEntered}
+use Rattle.superdirectory.specs.Trace.{Part, AreAt, AreEnters, IsEntered}
 use Rattle.superdirectory.specs.Rest.{Frame, count}
 use Rattle.superdirectory.specs.Grants.{IsRunIn, AreRunsIn, IsGivenAll}
-use Rattle.superdirectory.proofs.Traces.{part_then, enters_more}
+use Rattle.superdirectory.proofs.Traces.{part_then, enters_more, at_more}
 use Rattle.superdirectory.proofs.Spots.{runs_front, given_more}
 use Rattle.superdirectory.proofs.giving.give_from.Goals as goal
 
@@ -49,8 +49,18 @@ loop-segments-preserved g c =
             let count' : length before.0 ≡ count (g.L.Hints.rest c.loop-segments.latches) = before.2 ∙ same ∙ ap (λ (f : Frame). length f.firsts) (sym kept.rest.frame) in
             let more = given_more (λ g'. g'.space) (λ g'. g.S.Span.start g'.span) (λ g'. g.S.Span.contents g'.span) views before.0 c.in-Some.segment kept.done.0 (g.L.Hints.rest c.give.new.latches) before.3 (c.give.ensures.told before.0 before.1 count') in
             (more.0, more.1, more.2 ∙ before.2, more.3),
+        part_then (AreAt (reverse (map (λ g'. g'.space) kept.done.0))) (IsEntered c.in-Some.segment.space) (AreAt (reverse (map (λ g'. g'.space) (c.in-Some.segment ∷ kept.done.0))))
+            (g.L.Hints.trace c.args.latches.now) (g.L.Hints.trace c.loop-segments.latches) (g.L.Hints.trace c.give.new.latches)
+            (λ p q a b. at_more c.in-Some.segment.space (map (λ g'. g'.space) kept.done.0) p q a b) kept.done.3 c.give.ensures.trace,
       );
     }
+
+pub returns-after-loop-segments-clause-turn : goal.returns-after-loop-segments-clause-turn
+returns-after-loop-segments-clause-turn g c =
+    let kept = c.loop-segments.invariant in
+    let size : length c.loop-segments.segments.items ≡ c.args.from = omega (arith, kept.within, c.loop-segments-test.false, c.len.ensures) in
+    let whole = ap (drop c.args.from) kept.done.1 ∙ drop_at c.loop-segments.segments.items kept.done.0 c.args.from size in
+    subst (λ (items : List _). Part (AreAt (reverse (map (λ g'. g'.space) items))) (g.L.Hints.trace c.args.latches.now) (g.L.Hints.trace c.loop-segments.latches)) (sym whole) kept.done.3
 
 pub returns-after-loop-segments-clause-told : goal.returns-after-loop-segments-clause-told
 returns-after-loop-segments-clause-told g c = λ views told same.

@@ -1,16 +1,12 @@
--- The one space that was entered is left changed, and all others stay.
-use Rattle.std.proofs.Common.{◌≡◌, ◌-◌, List, map, Option, Some, None, ap, ◌∙◌, arith}
-use Rattle.std.specs.Prelude.{option_map, slice_set}
-use Rattle.space_directory.specs.SpaceView.{SpaceView, unlocked}
-use Rattle.superdirectory.specs.Rest.{Rest, leaving}
-use Rattle.superdirectory.proofs.Spots.{view_at, told_at, left_changed}
+-- One space was entered, used and left.
+use Rattle.std.proofs.Common.{◌-◌}
+use Rattle.space_directory.specs.SpaceView.{unlocked}
+use Rattle.superdirectory.proofs.Spots.{used}
 use Rattle.superdirectory.proofs.giving.unlock_run.Goals as goal
 
-pub returns-clause-told : goal.returns-clause-told
-returns-clause-told g c = λ views told same.
-    let v = view_at views c.args.s (omega (arith, c.requires.run.named)) in
-    let left : (g.L.Hints.rest c.leave.new.self).spaces ≡ Some (slice_set (slice_set (map Some views) c.args.s None) c.args.s (Some c.unlock.new.self)) =
-    ap (λ (r : Rest). r.spaces) (c.leave.ensures.rest ∙ ap (λ (r : Rest). leaving r c.args.s c.unlock.new.self) c.enter-space.ensures.rest)
-    ∙ ap (λ (o : Option (List (Option SpaceView))). option_map (λ spaces. slice_set spaces c.args.s (Some c.unlock.new.self)) (option_map (λ spaces. slice_set spaces c.args.s None) o)) told in
-    left_changed (λ v. unlocked v (c.args.first - v.first) c.args.n) views c.args.s v.0 c.enter-space.result c.unlock.new.self (g.L.Hints.rest c.leave.new.self) v.1
-    (c.enter-space.ensures.told v.0 (told_at (g.L.Hints.rest c.args.latches.now) views c.args.s v.0 told v.1)) c.unlock.ensures.unlocked left
+pub returns : goal.returns
+returns g c =
+    used (λ v. unlocked v (c.args.first - v.first) c.args.n) c.args.s c.enter-space.result c.unlock.new.self
+    (g.L.Hints.rest c.args.latches.now) (g.L.Hints.rest c.enter-space.new.self) (g.L.Hints.rest c.leave.new.self)
+    (g.L.Hints.trace c.args.latches.now) (g.L.Hints.trace c.enter-space.new.self) (g.L.Hints.trace c.leave.new.self)
+    c.requires.run.named c.enter-space.ensures.told c.unlock.ensures.unlocked c.enter-space.ensures.rest c.leave.ensures.rest c.enter-space.ensures.trace c.leave.ensures.trace

@@ -10,7 +10,7 @@ use Rattle.superdirectory.specs.Trace.{Part, IsSearched}
 use Rattle.superdirectory.specs.Rest.{Frame, count}
 use Rattle.superdirectory.specs.Parts.{IsAsked, AddsPieces}
 use Rattle.superdirectory.proofs.Traces.{part_as, part_then}
-use Rattle.superdirectory.proofs.Asked.{asked_placed, asked_refused, asked_half}
+use Rattle.superdirectory.proofs.Asked.{IsHalfway, asked_placed, asked_refused, asked_first, halfway, asked_both}
 use Rattle.superdirectory.proofs.Halves.{adds_placed, adds_uncut, adds_first, adds_both, few, room_left}
 use Rattle.superdirectory.proofs.parts.+grant_halved.Goals as goal
 
@@ -35,7 +35,7 @@ pub returns-then-half-threshold-clause-trace : goal.returns-then-half-threshold-
 returns-then-half-threshold-clause-trace g t c =
     part_as (IsSearched (least_order c.args.n) 0 (count (g.L.Hints.rest c.args.latches.now)) true) (IsAsked c.args.n c.args.threshold (count (g.L.Hints.rest c.args.latches.now)) (Some c.in-Err.refused.pages))
     (g.L.Hints.trace c.args.latches.now) (g.L.Hints.trace c.grant.new.latches)
-    (λ p h. subst (λ (m : ℕ). IsAsked c.args.n c.args.threshold (count (g.L.Hints.rest c.args.latches.now)) (Some m) p) (sym c.in-Err.ensures.pages) (asked_refused c.args.n c.args.threshold (count (g.L.Hints.rest c.args.latches.now)) p h)) c.in-Err.ensures.trace
+    (λ p h. subst (λ (m : ℕ). IsAsked c.args.n c.args.threshold (count (g.L.Hints.rest c.args.latches.now)) (Some m) p) (sym c.in-Err.ensures.pages) (asked_refused c.args.n c.args.threshold (count (g.L.Hints.rest c.args.latches.now)) p (omega (arith, c.if-half-threshold.true)) h)) c.in-Err.ensures.trace
 
 pub returns-in_err-grant_halved-clause-pieces : goal.returns-in_err-grant_halved-clause-pieces
 returns-in_err-grant_halved-clause-pieces g t c =
@@ -62,8 +62,8 @@ returns-in_err-grant_halved-clause-trace g t c =
     (part_then (IsSearched (least_order n) 0 many true) (IsAsked (n - n / 2) c.args.threshold (count (g.L.Hints.rest c.grant.new.latches)) (Some c.in_err-grant_halved.field-0.0.pages))
     (IsAsked n c.args.threshold many (Some c.in_err-grant_halved.field-0.0.pages))
     (g.L.Hints.trace c.args.latches.now) (g.L.Hints.trace c.grant.new.latches) (g.L.Hints.trace c.grant_halved.new.latches)
-    (λ p q a b. asked_half n (n - n / 2) c.args.threshold many (Some c.in_err-grant_halved.field-0.0.pages) p q (omega (arith, c.if-half-threshold.false)) (omega (arith, c.if-half-threshold.false))
-    (asked_refused n c.args.threshold many p a).careful (subst (λ (k : ℕ). IsAsked (n - n / 2) c.args.threshold k (Some c.in_err-grant_halved.field-0.0.pages) q) first b))
+    (λ p q a b. asked_first n (n - n / 2) c.args.threshold many c.in_err-grant_halved.field-0.0.pages p q (omega (arith, c.if-half-threshold.false)) (omega arith) a
+    (subst (λ (k : ℕ). IsAsked (n - n / 2) c.args.threshold k (Some c.in_err-grant_halved.field-0.0.pages) q) first b))
     c.in-Err.ensures.trace c.in_err-grant_halved.ensures.trace)
 
 pub grant_halved-requires-2-clause-room : goal.grant_halved-requires-2-clause-room
@@ -96,12 +96,11 @@ returns-clause-trace g t c =
     let refusal = option_map (λ e. e.pages) (result_err c.grant_halved-2.result) in
     let first : count (g.L.Hints.rest c.grant.new.latches) ≡ many = ap (λ (f : Frame). length f.firsts) c.in-Err.ensures.rest.frame in
     let second : count (g.L.Hints.rest c.grant_halved.new.latches) ≡ many = ap (λ (f : Frame). length f.firsts) c.in_ok-grant_halved.ensures.rest.frame ∙ first in
-    part_then (IsAsked n c.args.threshold many None) (IsAsked (n / 2) c.args.threshold (count (g.L.Hints.rest c.grant_halved.new.latches)) refusal) (IsAsked n c.args.threshold many refusal)
+    part_then (IsHalfway n c.args.threshold many) (IsAsked (n / 2) c.args.threshold (count (g.L.Hints.rest c.grant_halved.new.latches)) refusal) (IsAsked n c.args.threshold many refusal)
     (g.L.Hints.trace c.args.latches.now) (g.L.Hints.trace c.grant_halved.new.latches) (g.L.Hints.trace c.grant_halved-2.new.latches)
-    (λ p q a b. asked_half n (n / 2) c.args.threshold many refusal p q (omega (arith, c.if-half-threshold.false)) (omega (arith, c.if-half-threshold.false)) a.careful (subst (λ (k : ℕ). IsAsked (n / 2) c.args.threshold k refusal q) second b))
-    (part_then (IsSearched (least_order n) 0 many true) (IsAsked (n - n / 2) c.args.threshold (count (g.L.Hints.rest c.grant.new.latches)) None) (IsAsked n c.args.threshold many None)
+    (λ p q a b. asked_both n c.args.threshold many refusal p q (omega (arith, c.if-half-threshold.false)) a (subst (λ (k : ℕ). IsAsked (n / 2) c.args.threshold k refusal q) second b))
+    (part_then (IsSearched (least_order n) 0 many true) (IsAsked (n - n / 2) c.args.threshold (count (g.L.Hints.rest c.grant.new.latches)) None) (IsHalfway n c.args.threshold many)
     (g.L.Hints.trace c.args.latches.now) (g.L.Hints.trace c.grant.new.latches) (g.L.Hints.trace c.grant_halved.new.latches)
-    (λ p q a b. asked_half n (n - n / 2) c.args.threshold many None p q (omega (arith, c.if-half-threshold.false)) (omega (arith, c.if-half-threshold.false))
-    (asked_refused n c.args.threshold many p a).careful (subst (λ (k : ℕ). IsAsked (n - n / 2) c.args.threshold k None q) first b))
+    (λ p q a b. halfway n (n - n / 2) c.args.threshold many p q (omega arith) a (subst (λ (k : ℕ). IsAsked (n - n / 2) c.args.threshold k None q) first b))
     c.in-Err.ensures.trace c.in_ok-grant_halved.ensures.trace)
     c.grant_halved-2.ensures.trace

@@ -1,11 +1,13 @@
 -- All pieces, or none: those before a refusal are given back.
-use Rattle.std.proofs.Common.{◌≡◌, List, [], length, take, drop, None, refl, sym, ap, ◌∙◌, subst, arith}
+use Rattle.std.proofs.Common.{◌≡◌, List, [], length, take, drop, Some, None, refl, sym, ap, ◌∙◌, subst, arith}
 use Rattle.std.proofs.lemmas.List.{drop_at, drop_all, take_at}
 use Rattle.std.specs.Prelude.{vec_len, vec_capacity}
 use Rattle.layout_model.specs.Grants.{halved}
 use Rattle.superdirectory.specs.Rest.{Frame, count}
 use Rattle.superdirectory.specs.Grants.{free_of, AreRunsIn, IsGivenAll}
-use Rattle.superdirectory.specs.Parts.{ArePieces, IsAnswered}
+use Rattle.superdirectory.specs.Trace.{AreEnters}
+use Rattle.superdirectory.specs.Parts.{IsLaid, ArePieces, IsAnswered, IsAsked, IsAskedAll}
+use Rattle.superdirectory.proofs.Traces.{part_then}
 use Rattle.superdirectory.proofs.Halves.{room_enough, taken_length, refused_whole}
 use Rattle.superdirectory.proofs.parts.grant_parts.Goals as goal
 
@@ -27,18 +29,25 @@ returns-in-Ok-clause-pieces g c =
     (record { runs = a.runs; whole = a.whole refl; least = a.least })
 
 pub returns-in-Ok-clause-exact : goal.returns-in-Ok-clause-exact
-returns-in-Ok-clause-exact g c = λ numbers views laid told same.
+returns-in-Ok-clause-exact g c = λ numbers views told same.
     let a = c.in-Ok.ensures.pieces in
     let all = ap (drop (vec_len c.args.into.now)) a.added ∙ drop_at c.args.into.now.items a.pieces (vec_len c.args.into.now) (omega arith) in
-    let answered = a.told numbers c.args.n views (omega arith) laid told same in
+    let answered = a.told numbers c.args.n views (omega arith) told same in
     subst (λ (pieces : List _). IsAnswered (λ g'. g'.space) (λ g'. g.S.Span.start g'.span) (λ g'. g.S.Span.contents g'.span) views
-    (halved c.args.n numbers c.args.start c.args.threshold c.args.n (free_of views)) None pieces (g.L.Hints.rest c.grant_halved.new.latches)) (sym all) answered
+    (IsLaid numbers (g.L.Hints.rest c.args.latches.now).frame.firsts) (halved c.args.n numbers c.args.start c.args.threshold c.args.n (free_of views)) None pieces (g.L.Hints.rest c.grant_halved.new.latches)) (sym all) answered
+
+pub returns-in-Err-clause-trace : goal.returns-in-Err-clause-trace
+returns-in-Err-clause-trace g c =
+    let many = count (g.L.Hints.rest c.args.latches.now) in
+    part_then (IsAsked c.args.n c.args.threshold many (Some c.in-Err.refused.pages)) AreEnters (IsAskedAll c.args.n c.args.threshold many (Some c.in-Err.refused.pages))
+    (g.L.Hints.trace c.args.latches.now) (g.L.Hints.trace c.grant_halved.new.latches) (g.L.Hints.trace c.give_from.new.latches)
+    (λ p q a b. record { asked = p; given = q; both = refl; grants = a; gives = b; none = λ e. cc }) c.in-Err.ensures.trace c.give_from.ensures.trace
 
 pub returns-in-Err-clause-exact : goal.returns-in-Err-clause-exact
-returns-in-Err-clause-exact g c = λ numbers views laid told same.
+returns-in-Err-clause-exact g c = λ numbers views told same.
     let a = c.in-Err.ensures.pieces in
     let had = c.args.into.now.items in
-    let answered = a.told numbers c.args.n views (omega arith) laid told same in
+    let answered = a.told numbers c.args.n views (omega arith) told same in
     let all = ap (drop c.len-kept.result) a.added ∙ drop_at had a.pieces c.len-kept.result (omega (arith, c.len-kept.ensures)) in
     let left : c.give_from.new.segments.items ≡ had = c.give_from.ensures.left ∙ ap (take c.len-kept.result) a.added ∙ take_at had a.pieces c.len-kept.result (omega (arith, c.len-kept.ensures)) in
     let none : drop (vec_len c.args.into.now) c.give_from.new.segments.items ≡ [] = ap (drop (vec_len c.args.into.now)) left ∙ drop_all (vec_len c.args.into.now) had (omega arith) in
@@ -46,6 +55,6 @@ returns-in-Err-clause-exact g c = λ numbers views laid told same.
     taken_length (λ g'. g'.space) (λ g'. g.S.Span.start g'.span) (λ g'. g.S.Span.contents g'.span) views a.pieces answered.after answered.taken ∙ same ∙ ap (λ (f : Frame). length f.firsts) (sym c.in-Err.ensures.rest.frame) in
     let back = c.give_from.ensures.told answered.after answered.told size in
     refused_whole (λ g'. g'.space) (λ g'. g.S.Span.start g'.span) (λ g'. g.S.Span.contents g'.span) g.S.Span.tells (g.L.Hints.rest c.args.latches.now).frame views
-    (halved c.args.n numbers c.args.start c.args.threshold c.args.n (free_of views)) c.in-Err.refused.pages a.pieces (drop (vec_len c.args.into.now) c.give_from.new.segments.items)
+    (IsLaid numbers (g.L.Hints.rest c.args.latches.now).frame.firsts) (halved c.args.n numbers c.args.start c.args.threshold c.args.n (free_of views)) c.in-Err.refused.pages a.pieces (drop (vec_len c.args.into.now) c.give_from.new.segments.items)
     (g.L.Hints.rest c.grant_halved.new.latches) (g.L.Hints.rest c.give_from.new.latches) a.runs answered
     (back.0, back.1, subst (λ (pieces : List _). IsGivenAll (λ g'. g'.space) (λ g'. g.S.Span.start g'.span) (λ g'. g.S.Span.contents g'.span) answered.after pieces back.0) all back.2) none

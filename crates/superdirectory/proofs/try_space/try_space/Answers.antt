@@ -1,12 +1,12 @@
 -- The look, the enter and the leave, and what the one space's grant says of all.
-use Rattle.std.proofs.Common.{◌≡◌, List, [], ◌∷◌, ◌++◌, map, Option, Some, None, sym, ap, ◌∙◌, subst, arith}
+use Rattle.std.proofs.Common.{◌≡◌, List, [], ◌∷◌, ◌++◌, map, Option, Some, None, true, sym, ap, ◌∙◌, subst, arith}
 use Rattle.std.proofs.lemmas.Bool.{false≢true}
 use Rattle.std.specs.Prelude.{is_none, option_map, slice_set}
 use Rattle.block_model.specs.Place.{hint_of}
 use Rattle.space_directory.specs.SpaceView.{SpaceView}
-use Rattle.superdirectory.specs.Trace.{Event, look_event, enter_event, IsTried, IsNothing}
+use Rattle.superdirectory.specs.Trace.{Event, look_event, enter_event, IsTried, IsInTurn, IsNothing}
 use Rattle.superdirectory.specs.Rest.{Rest, leaving}
-use Rattle.superdirectory.proofs.Traces.{part_then, tried_entered}
+use Rattle.superdirectory.proofs.Traces.{part_then, part_as, tried_entered, turn_low, turn_entered}
 use Rattle.superdirectory.proofs.Spots.{view_at, told_at, exact_refused, exact_entered, segment_in, low_where_none}
 use Rattle.superdirectory.proofs.try_space.try_space.Goals as goal
 
@@ -24,6 +24,23 @@ returns-clause-trace g c =
     (g.L.Hints.trace c.args.latches.now) (g.L.Hints.trace c.look-hint.new.self) (g.L.Hints.trace c.leave.new.self)
     (λ p q first second. subst (λ (l : List Event). IsTried c.args.order c.args.s (is_none c.grant-granted.result) l) (sym (ap (λ (l : List Event). l ++ q) first ∙ ap (λ (l : List Event). look_event c.args.s c.look-hint.result.0 ∷ l) second))
     (tried_entered c.args.order c.args.s c.look-hint.result.0 (hint_of c.enter-space.result.free) (is_none c.grant-granted.result) (c.admits.ensures.0 c.if-not-admits.false) (low_where_none c.grant-granted.result c.enter-space.result.free c.args.n c.args.order c.grant-granted.ensures.refused c.requires.order)))
+    c.look-hint.ensures.trace
+    (part_then (λ part. part ≡ enter_event c.args.s (hint_of c.enter-space.result.free) ∷ []) IsNothing (λ part. part ≡ enter_event c.args.s (hint_of c.enter-space.result.free) ∷ [])
+    (g.L.Hints.trace c.look-hint.new.self) (g.L.Hints.trace c.enter-space.new.self) (g.L.Hints.trace c.leave.new.self)
+    (λ p q first second. ap (λ (l : List Event). l ++ q) first ∙ ap (λ (l : List Event). enter_event c.args.s (hint_of c.enter-space.result.free) ∷ l) second)
+    c.enter-space.ensures.trace c.leave.ensures.trace)
+
+pub returns-then-not-admits-clause-turn : goal.returns-then-not-admits-clause-turn
+returns-then-not-admits-clause-turn g c =
+    part_as (λ part. part ≡ look_event c.args.s c.look-hint.result.0 ∷ []) (IsInTurn (c.args.s ∷ []) true) (g.L.Hints.trace c.args.latches.now) (g.L.Hints.trace c.look-hint.new.self)
+    (λ p e. subst (IsInTurn (c.args.s ∷ []) true) (sym e) (turn_low c.args.s c.look-hint.result.0)) c.look-hint.ensures.trace
+
+pub returns-clause-turn : goal.returns-clause-turn
+returns-clause-turn g c =
+    part_then (λ part. part ≡ look_event c.args.s c.look-hint.result.0 ∷ []) (λ part. part ≡ enter_event c.args.s (hint_of c.enter-space.result.free) ∷ []) (IsInTurn (c.args.s ∷ []) (is_none c.grant-granted.result))
+    (g.L.Hints.trace c.args.latches.now) (g.L.Hints.trace c.look-hint.new.self) (g.L.Hints.trace c.leave.new.self)
+    (λ p q first second. subst (λ (l : List Event). IsInTurn (c.args.s ∷ []) (is_none c.grant-granted.result) l) (sym (ap (λ (l : List Event). l ++ q) first ∙ ap (λ (l : List Event). look_event c.args.s c.look-hint.result.0 ∷ l) second))
+    (turn_entered c.args.s c.look-hint.result.0 (hint_of c.enter-space.result.free) (is_none c.grant-granted.result)))
     c.look-hint.ensures.trace
     (part_then (λ part. part ≡ enter_event c.args.s (hint_of c.enter-space.result.free) ∷ []) IsNothing (λ part. part ≡ enter_event c.args.s (hint_of c.enter-space.result.free) ∷ [])
     (g.L.Hints.trace c.look-hint.new.self) (g.L.Hints.trace c.enter-space.new.self) (g.L.Hints.trace c.leave.new.self)

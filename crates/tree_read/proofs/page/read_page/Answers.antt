@@ -38,4 +38,4 @@ returns-clause-reads g c =
     let one = one_page (length c.args.out.now) size c.requires.whole (omega (arith, low)) in
     let reads = c.read_run.ensures.reads in
     let most = reads.most in
-    record { page = reads.page; written = reads.written; few = omega (arith, most, one); faults = c.read_run.ensures.cause.kept }
+    record { used = reads.used; written = reads.written; few = omega (arith, most, one) }

@@ -65,7 +65,7 @@ loop-level-preserved g c =
     let m2 = g.P.Port.meter c.level_below.new.port in
     let old = c.loop-level.segments.items in
     let new = c.in_ok-segments-2.segments.items in
-    let page : m1.page ≡ m0.page = c.loop-level.invariant.uses.page in
+    let page : m1.page ≡ m0.page = c.loop-level.invariant.uses.used.page in
     let items = λ (t : IsTrue g.P.S.Span.tells). c.in_ok-segments-2.ensures.told t ∙ ap (below at from to) c.as_slice.ensures.value in
     record {
       kept = subst (λ (n : ℕ). KeepsNodes g.P.S.Span.tells n (bytes_on c.args.held.now) c.level_below.new.cache) page c.level_below.ensures.kept;

@@ -29,8 +29,9 @@ returns-in-Refused-clause-step c =
 pub returns-then-is_ok_reply-clause-step : goal.returns-then-is_ok_reply-clause-step
 returns-then-is_ok_reply-clause-step c =
     let got = sym (ap (answered (λ after. after)) c.in-Got.is) ∙ c.in_ok-pages.ensures in
+    let accepted = sym c.in_ok-accepted-in-Got.ensures ∙ c.if-not-accepted.false in
     edited_put c.args.self.now c.serve.new.self c.place.new.self c.args.session c.args.object c.args.command c.args.edit.now c.in-Got.after c.in-Got.left c.in_ok-reply-in-Got.reply
-    c.requires.tied c.requires.from_one c.requires.upto c.requires.object c.requires.edit got c.in_ok-reply-in-Got.ensures.served
+    c.requires.tied c.requires.from_one c.requires.upto c.requires.object c.requires.edit accepted got c.in_ok-reply-in-Got.ensures.served
     (sym c.is_ok_reply.ensures ∙ c.if-is_ok_reply.true) c.place.ensures
 
 pub returns-clause-step : goal.returns-clause-step

@@ -95,3 +95,6 @@ returns-clause-agree g c = λ t fits.
     subst (λ (x : Transaction (PlainObject g.row.H.Denot)). Agree g.H.Annals.tells g.H.Annals.told t x.held) (sym (whole g c new.object new.more new.is))
     (agree-noting g.H.Annals.tells g.H.Annals.told t (holding c.args.self.now (with_object c.args.o new.object c.args.self.now.held)) c.args.o new.more
     (agree-object g.H.Annals.tells g.H.Annals.told t c.args.o c.index_mut.result.now.object new.object c.args.self.now.held (at g c) new.committed new.annals fits))
+
+pub returns-clause-memory : goal.returns-clause-memory
+returns-clause-memory g c = rw (at g c) c.change.ensures.memory

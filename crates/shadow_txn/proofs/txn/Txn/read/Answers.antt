@@ -59,3 +59,6 @@ returns-clause-serves g c = λ shelf s.
 pub returns-clause-agree : goal.returns-clause-agree
 returns-clause-agree g c = λ t fits.
     subst (λ (x : Transaction (PlainObject g.row.H.Denot)). Agree g.H.Annals.tells g.H.Annals.told t x.held) (sym (whole g c)) (agree-noting g.H.Annals.tells g.H.Annals.told t c.args.self.now c.args.o _ fits)
+
+pub returns-clause-memory : goal.returns-clause-memory
+returns-clause-memory g c = rw (at g c) c.read.ensures.memory

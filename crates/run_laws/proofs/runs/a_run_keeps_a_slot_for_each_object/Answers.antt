@@ -1,0 +1,5 @@
+use Rattle.run_laws.proofs.runs.a_run_keeps_a_slot_for_each_object.Goals as goal
+use Rattle.run_laws.proofs.RunLemmas.{run-slots}
+
+pub returns : goal.returns
+returns c = run-slots
