@@ -58,7 +58,8 @@ pub fn make_store(rt: &HostRuntime) -> Result<Store, Failure>
     Ok(Store { port, data })
 }
 
-/// The space of a new store, a quarter of whose pages are used: every other eight of its first half.
+/// The space of a new store, a quarter of whose pages are used: every other eight of its first
+/// half.
 pub fn quarter_used(alloc: Global, store: Store) -> Result<Space<FileSpan>, Failure>
     requires { store.data.count ≡ 16384 }
     ensures count { IfOk result (λ space. length space.free ≡ 16384) }

@@ -1,5 +1,6 @@
 -- A set and its bitmap give each other, and neither has two forms.
-use Rattle.std.proofs.Common.{◌≡◌, ℕ, zero, suc, ◌+◌, ◌*◌, ◌-◌, ◌<◌, ◌≤◌, Bool, true, false, not, ◌&&◌, List, [], ◌∷◌, ◌++◌, length, get_or, take, drop, refl, sym, ap, ◌∙◌, arith, nat_eq}
+use Rattle.std.proofs.Common.{◌≡◌, ℕ, zero, suc, ◌+◌, ◌*◌, ◌-◌, ◌<◌, ◌≤◌, Bool, true, false, not, ◌&&◌, List, []}
+use Rattle.std.proofs.Common.{◌∷◌, ◌++◌, length, get_or, take, drop, refl, sym, ap, ◌∙◌, arith, nat_eq}
 use Rattle.std.proofs.lemmas.Bool.{agree_below_at, eqb-true, and_parts, false≢true}
 use Rattle.std.proofs.lemmas.List.{drop-drop, take-append-drop}
 use Rattle.std.specs.List.{flat_map}
@@ -13,7 +14,8 @@ byte_of-pages_of byte rest small =
 pub packed-unpacked : (bytes : List ℕ) → ((i : ℕ) → get_or bytes i 0 < 256) → packed (length bytes) (unpacked bytes) ≡ bytes
 packed-unpacked [] small = refl
 packed-unpacked (byte ∷ bytes) small =
-    ap (λ (b : ℕ). b ∷ packed (length bytes) (unpacked bytes)) (byte_of-pages_of byte (unpacked bytes) (small 0)) ∙ ap (λ (bs : List ℕ). byte ∷ bs) (packed-unpacked bytes (λ i. small (suc i)))
+    ap (λ (b : ℕ). b ∷ packed (length bytes) (unpacked bytes)) (byte_of-pages_of byte (unpacked bytes) (small 0))
+    ∙ ap (λ (bs : List ℕ). byte ∷ bs) (packed-unpacked bytes (λ i. small (suc i)))
 
 pub length-unpacked : (bytes : List ℕ) → length (unpacked bytes) ≡ 8 * length bytes
 length-unpacked [] = refl
@@ -29,7 +31,9 @@ packed-more zero pages = refl
 packed-more (suc n) pages =
     let e : suc n + 1 ≡ suc (n + 1) = omega arith in
     let at : 8 + 8 * n ≡ 8 * suc n = omega arith in
-    ap (λ (k : ℕ). packed k pages) e ∙ ap (λ (bs : List ℕ). byte_of pages ∷ bs) (packed-more n (drop 8 pages) ∙ ap (λ (ps : List Bool). packed n (drop 8 pages) ++ (byte_of ps ∷ [])) (drop-drop (8 * n) 8 pages ∙ ap (λ (k : ℕ). drop k pages) at))
+    ap (λ (k : ℕ). packed k pages) e ∙ ap (λ (bs : List ℕ). byte_of pages ∷ bs)
+    (packed-more n (drop 8 pages) ∙ ap (λ (ps : List Bool). packed n (drop 8 pages) ++ (byte_of ps ∷ []))
+    (drop-drop (8 * n) 8 pages ∙ ap (λ (k : ℕ). drop k pages) at))
 
 -- a test on each list of n tests
 all_tests : ℕ → (List Bool → Bool) → Bool
@@ -41,8 +45,12 @@ unfolding all_tests
 all_tests_at zero p [] e all = all
 all_tests_at zero p (b ∷ bits) e all = absurd (omega arith)
 all_tests_at (suc n) p [] e all = absurd (omega arith)
-all_tests_at (suc n) p (true ∷ bits) e all = all_tests_at n (λ rest. p (true ∷ rest)) bits (omega arith) (and_parts (all_tests n (λ rest. p (true ∷ rest))) (all_tests n (λ rest. p (false ∷ rest))) all).0
-all_tests_at (suc n) p (false ∷ bits) e all = all_tests_at n (λ rest. p (false ∷ rest)) bits (omega arith) (and_parts (all_tests n (λ rest. p (true ∷ rest))) (all_tests n (λ rest. p (false ∷ rest))) all).1
+all_tests_at (suc n) p (true ∷ bits) e all =
+    all_tests_at n (λ rest. p (true ∷ rest)) bits (omega arith)
+    (and_parts (all_tests n (λ rest. p (true ∷ rest))) (all_tests n (λ rest. p (false ∷ rest))) all).0
+all_tests_at (suc n) p (false ∷ bits) e all =
+    all_tests_at n (λ rest. p (false ∷ rest)) bits (omega arith)
+    (and_parts (all_tests n (λ rest. p (true ∷ rest))) (all_tests n (λ rest. p (false ∷ rest))) all).1
 
 is_same : List Bool → List Bool → Bool
 is_same [] [] = true

@@ -1,14 +1,17 @@
 -- The computed place, largest block and order are those of the definitions, and the only ones.
-use Rattle.std.proofs.Common.{inl, inr, ◌≡◌, ℕ, suc, zero, ◌+◌, ◌*◌, ◌/◌, ◌^◌, ◌<◌, ◌≤◌, ◌-◌, Bool, true, false, List, length, Option, Some, None, refl, sym, ap, ◌∙◌, subst, arith}
+use Rattle.std.proofs.Common.{inl, inr, ◌≡◌, ℕ, suc, zero, ◌+◌, ◌*◌, ◌/◌, ◌^◌, ◌<◌, ◌≤◌, ◌-◌, Bool, true, false}
+use Rattle.std.proofs.Common.{List, length, Option, Some, None, refl, sym, ap, ◌∙◌, subst, arith}
 use Rattle.std.proofs.Math.Nat.{pow-succ', le_antisymm, zero-add}
 use Rattle.std.proofs.lemmas.Nat.{pow_pos}
 use Rattle.std.proofs.Math.Pow.{pow_mono}
 use Rattle.std.proofs.lemmas.Bool.{false≢true, cases_Bool, cases_eq, cases_lt, leb-true, leb-false}
 use Rattle.std.specs.Prelude.{nat_le, if◌then◌else◌}
 use Rattle.block_model.specs.Block.{has_page, HasRun, IsBlock, IsMaximal, IsOrder, HasNoRoom, IsPlace, IsLargest, IsHint}
-use Rattle.block_model.specs.Place.{halves, unmerged, first_true, is_any, found_at, place_from, place, orders_from, hint_of, largest, order_before, order_from, least_order}
+use Rattle.block_model.specs.Place.{halves, unmerged, first_true, is_any, found_at, place_from, place, orders_from}
+use Rattle.block_model.specs.Place.{hint_of, largest, order_before, order_from, least_order}
 use Rattle.block_model.proofs.Runs.{HasRun-part, HasRun-within, IsBlock-lower, order_below, below_power}
-use Rattle.block_model.proofs.Levels.{blocks, blocks-block, block-blocks, maximal_by_parent, unmerged-maximal, maximal-unmerged, FirstTrue, first_true-is, some_page, no_page}
+use Rattle.block_model.proofs.Levels.{blocks, blocks-block, block-blocks, maximal_by_parent, unmerged-maximal}
+use Rattle.block_model.proofs.Levels.{maximal-unmerged, FirstTrue, first_true-is, some_page, no_page}
 
 -- ---- each block lies in a maximal one
 
@@ -24,7 +27,13 @@ maximal_over (suc d) free i r short b =
     elim (cases_Bool (has_page (blocks (suc i) free) (r / 2))) [
       | inl t ↦ let up = maximal_over d free (suc i) (r / 2) (omega arith) (blocks-block (suc i) free (r / 2) t) in
           record { order = up.order; number = up.number; above = omega (arith, up.above); maximal = up.maximal }
-      | inr f ↦ record { order = i; number = r; above = omega arith; maximal = maximal_by_parent free i r b (λ parent. false≢true (sym f ∙ block-blocks (suc i) free (r / 2) parent)) }
+      | inr f ↦ record {
+        order = i;
+        number = r;
+        above = omega arith;
+        maximal =
+            maximal_by_parent free i r b (λ parent. false≢true (sym f ∙ block-blocks (suc i) free (r / 2) parent));
+      }
     ]
 
 pub maximal_round : (free : List Bool) (i r : ℕ) → IsBlock free i r → MaximalOver free i
@@ -49,9 +58,11 @@ unfolding Found
 found_first free j n (Some q) fits h = (fits, unmerged-maximal free j q h.0, λ r m. h.1 r (maximal-unmerged free j r m))
 found_first free j n None fits h = λ r _ m. h r (maximal-unmerged free j r m)
 
-found_by : (free : List Bool) (j n : ℕ) (b : Bool) → nat_le n (2 ^ j) ≡ b → Found free j n (if b then first_true (unmerged (blocks j free)) else None)
+found_by : (free : List Bool) (j n : ℕ) (b : Bool) → nat_le n (2 ^ j) ≡ b →
+    Found free j n (if b then first_true (unmerged (blocks j free)) else None)
 unfolding Found
-found_by free j n true e = found_first free j n (first_true (unmerged (blocks j free))) (leb-true n (2 ^ j) e) (first_true-is (unmerged (blocks j free)))
+found_by free j n true e = found_first free j n (first_true (unmerged (blocks j free))) (leb-true n (2 ^ j) e)
+    (first_true-is (unmerged (blocks j free)))
 found_by free j n false e = λ r fits m. absurd (omega (arith, leb-false n (2 ^ j) e))
 
 found-is : (free : List Bool) (j n : ℕ) → Found free j n (found_at (blocks j free) (2 ^ j) n)
@@ -71,7 +82,8 @@ none_more free j n below here i r less fits m =
 least_by : (free : List Bool) (j n : ℕ) → NoneBelow free j n → (i r : ℕ) → IsMaximal free i r → n ≤ 2 ^ i → j ≤ i
 least_by free j n below i r m fits = elim (cases_lt i j) [ inl less ↦ absurd (below i r less fits m) | inr ge ↦ ge ]
 
-place_by : (free : List Bool) (j n : ℕ) (o : Option ℕ) (rest : Option ℕ) → NoneBelow free j n → Found free j n o → (NoneBelow free (suc j) n → IsPlace free n rest) →
+place_by : (free : List Bool) (j n : ℕ) (o : Option ℕ) (rest : Option ℕ) → NoneBelow free j n → Found free j n o →
+    (NoneBelow free (suc j) n → IsPlace free n rest) →
     IsPlace free n (elim o [ Some q ↦ Some (q * 2 ^ j) | None ↦ rest ])
 unfolding Found
 place_by free j n (Some q) rest below found further = (
@@ -87,12 +99,15 @@ place_by free j n (Some q) rest below found further = (
 )
 place_by free j n None rest below found further = further (none_more free j n below found)
 
-place_from-is : (levels : ℕ) (free : List Bool) (j n : ℕ) → length free ≤ levels + j → NoneBelow free j n → IsPlace free n (place_from levels (blocks j free) (2 ^ j) n)
+place_from-is : (levels : ℕ) (free : List Bool) (j n : ℕ) → length free ≤ levels + j → NoneBelow free j n →
+    IsPlace free n (place_from levels (blocks j free) (2 ^ j) n)
 place_from-is zero free j n short below =
     HasNoRoom-by_maximal free n (λ i r fits m. below i r (omega (arith, order_below free i r m.block)) fits m)
 place_from-is (suc levels) free j n short below =
-    place_by free j n (found_at (blocks j free) (2 ^ j) n) (place_from levels (halves (blocks j free)) (2 * 2 ^ j) n) below (found-is free j n)
-    (λ more. subst (λ (size : ℕ). IsPlace free n (place_from levels (halves (blocks j free)) size n)) (pow-succ' 2 j) (place_from-is levels free (suc j) n (omega arith) more))
+    place_by free j n (found_at (blocks j free) (2 ^ j) n)
+    (place_from levels (halves (blocks j free)) (2 * 2 ^ j) n) below (found-is free j n)
+    (λ more. subst (λ (size : ℕ). IsPlace free n (place_from levels (halves (blocks j free)) size n))
+    (pow-succ' 2 j) (place_from-is levels free (suc j) n (omega arith) more))
 
 -- the place is where a grant of n pages lies
 pub place-is : (free : List Bool) (n : ℕ) → IsPlace free n (place free n)
@@ -139,7 +154,9 @@ top_more free j count r b top = record {
   reached = reached_more free j count r b top.reached;
 }
   where
-    reached_more : (free : List Bool) (j count r : ℕ) → IsBlock free j r → ((m : ℕ) → count ≡ suc m → (s : ℕ) × IsBlock free (suc j + m) s) → (m : ℕ) → suc count ≡ suc m → (s : ℕ) × IsBlock free (j + m) s
+    reached_more : (free : List Bool) (j count r : ℕ) → IsBlock free j r →
+        ((m : ℕ) → count ≡ suc m → (s : ℕ) × IsBlock free (suc j + m) s) → (m : ℕ) → suc count ≡ suc m → (s : ℕ)
+        × IsBlock free (j + m) s
     reached_more free j count r b top zero e = (r, let same : j ≡ j + 0 = omega arith in subst (λ (k : ℕ). IsBlock free k r) same b)
     reached_more free j count r b top (suc m) e =
         let up = top m (omega arith) in
@@ -147,15 +164,18 @@ top_more free j count r b top = record {
 
 top_none : (free : List Bool) (j : ℕ) → is_any (blocks j free) ≡ false → IsTop free j 0
 top_none free j none = record {
-  above = λ i r from b. absurd (no_page (blocks j free) none (r * 2 ^ (i - j)) (block-blocks j free (r * 2 ^ (i - j)) (lower free j (i - j) i r (omega arith) b)));
+  above = λ i r from b. absurd (no_page (blocks j free) none (r * 2 ^ (i - j))
+      (block-blocks j free (r * 2 ^ (i - j)) (lower free j (i - j) i r (omega arith) b)));
   reached = λ m e. absurd (omega arith);
 }
   where
     lower : (free : List Bool) (j d i r : ℕ) → i ≡ j + d → IsBlock free i r → IsBlock free j (r * 2 ^ d)
     lower free j d i r e b = IsBlock-lower free j d r (subst (λ (k : ℕ). IsBlock free k r) e b)
 
-top_by : (free : List Bool) (j : ℕ) (b : Bool) (rest : ℕ) → is_any (blocks j free) ≡ b → IsTop free (suc j) rest → IsTop free j (elim b [ true ↦ suc rest | false ↦ 0 ])
-top_by free j true rest e top = let page = some_page (blocks j free) e in top_more free j rest page.0 (blocks-block j free page.0 page.1) top
+top_by : (free : List Bool) (j : ℕ) (b : Bool) (rest : ℕ) → is_any (blocks j free) ≡ b → IsTop free (suc j) rest →
+    IsTop free j (elim b [ true ↦ suc rest | false ↦ 0 ])
+top_by free j true rest e top = let page = some_page (blocks j free) e in
+    top_more free j rest page.0 (blocks-block j free page.0 page.1) top
 top_by free j false rest e top = top_none free j e
 
 orders_from-is : (levels : ℕ) (free : List Bool) (j : ℕ) → length free ≤ levels + j → IsTop free j (orders_from levels (blocks j free))
@@ -164,7 +184,8 @@ orders_from-is zero free j short = record {
   reached = λ m e. absurd (omega arith);
 }
 orders_from-is (suc levels) free j short =
-    top_by free j (is_any (blocks j free)) (orders_from levels (halves (blocks j free))) refl (orders_from-is levels free (suc j) (omega arith))
+    top_by free j (is_any (blocks j free)) (orders_from levels (halves (blocks j free))) refl
+    (orders_from-is levels free (suc j) (omega arith))
 
 pub hint_of-is : (free : List Bool) → IsHint free (hint_of free)
 unfolding hint_of
@@ -205,7 +226,8 @@ largest-unique free o p = IsLargest-unique free o (largest free) p (largest-is f
 
 -- ---- the order
 
-order_by : (b : Bool) (steps order n : ℕ) (rest : ℕ) → nat_le n (2 ^ order) ≡ b → ((i : ℕ) → n ≤ 2 ^ i → order ≤ i) → (((i : ℕ) → n ≤ 2 ^ i → suc order ≤ i) → IsOrder n rest) →
+order_by : (b : Bool) (steps order n : ℕ) (rest : ℕ) → nat_le n (2 ^ order) ≡ b →
+    ((i : ℕ) → n ≤ 2 ^ i → order ≤ i) → (((i : ℕ) → n ≤ 2 ^ i → suc order ≤ i) → IsOrder n rest) →
     IsOrder n (elim b [ true ↦ order | false ↦ rest ])
 order_by true steps order n rest e least further = record { holds = leb-true n (2 ^ order) e; least = least }
 order_by false steps order n rest e least further =
@@ -214,7 +236,8 @@ order_by false steps order n rest e least further =
       | inr ne ↦ omega (arith, least i fits)
     ])
 
-order_from-is : (steps order n : ℕ) → n ≤ 2 ^ (steps + order) → ((i : ℕ) → n ≤ 2 ^ i → order ≤ i) → IsOrder n (order_from steps (2 ^ order) order n)
+order_from-is : (steps order n : ℕ) → n ≤ 2 ^ (steps + order) → ((i : ℕ) → n ≤ 2 ^ i → order ≤ i) →
+    IsOrder n (order_from steps (2 ^ order) order n)
 order_from-is zero order n fits least = record { holds = subst (λ (k : ℕ). n ≤ 2 ^ k) (zero-add order) fits; least = least }
 order_from-is (suc steps) order n fits least =
     let move : suc steps + order ≡ steps + suc order = omega arith in
@@ -224,7 +247,8 @@ order_from-is (suc steps) order n fits least =
 
 pub least_order-is : (n : ℕ) → IsOrder n (least_order n)
 unfolding least_order
-least_order-is n = order_from-is n 0 n (let same : n ≡ n + 0 = omega arith in subst (λ (k : ℕ). n ≤ 2 ^ k) same (omega (arith, below_power n))) (λ i fits. omega arith)
+least_order-is n = order_from-is n 0 n (let same : n ≡ n + 0 = omega arith in
+    subst (λ (k : ℕ). n ≤ 2 ^ k) same (omega (arith, below_power n))) (λ i fits. omega arith)
 
 pub IsOrder-unique : (n a b : ℕ) → IsOrder n a → IsOrder n b → a ≡ b
 IsOrder-unique n a b p q = le_antisymm (p.least b q.holds) (q.least a p.holds)

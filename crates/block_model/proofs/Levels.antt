@@ -1,5 +1,6 @@
 -- The blocks of one order as a list of tests, made by joining neighbours order by order.
-use Rattle.std.proofs.Common.{◌≡◌, ℕ, suc, zero, ◌+◌, ◌*◌, ◌/◌, ◌^◌, ◌≤◌, ◌-◌, Bool, true, false, not, ◌&&◌, List, [], ◌∷◌, Option, Some, None, refl, sym, ◌∙◌, subst, arith}
+use Rattle.std.proofs.Common.{◌≡◌, ℕ, suc, zero, ◌+◌, ◌*◌, ◌/◌, ◌^◌, ◌≤◌, ◌-◌, Bool, true, false, not, ◌&&◌, List}
+use Rattle.std.proofs.Common.{[], ◌∷◌, Option, Some, None, refl, sym, ◌∙◌, subst, arith}
 use Rattle.std.proofs.Math.Nat.{pow-succ', mul-le-mul_right}
 use Rattle.std.proofs.lemmas.Bool.{false≢true, and_parts, and_from, and_right, not-true, not_from_false, false_from_ne_true}
 use Rattle.std.specs.Prelude.{IsTrue}
@@ -41,7 +42,8 @@ none_behind : (bits : List Bool) → ((r : ℕ) → IsTrue (has_page bits r) →
 none_behind bits h zero t = false≢true t
 none_behind bits h (suc r) t = h r t
 
-first_behind : (bits : List Bool) (q : ℕ) → ((r : ℕ) → IsTrue (has_page bits r) → q ≤ r) → (r : ℕ) → IsTrue (has_page (false ∷ bits) r) → suc q ≤ r
+first_behind : (bits : List Bool) (q : ℕ) → ((r : ℕ) → IsTrue (has_page bits r) → q ≤ r) → (r : ℕ) →
+    IsTrue (has_page (false ∷ bits) r) → suc q ≤ r
 first_behind bits q h zero t = absurd (false≢true t)
 first_behind bits q h (suc r) t = omega (arith, h r t)
 
@@ -75,13 +77,16 @@ blocks-block zero free q h = record {
   each = λ page from to. let e : q ≡ page = omega arith in subst (λ (p : ℕ). IsTrue (has_page free p)) e h;
 }
 blocks-block (suc j) free q h =
-    let both = and_parts (has_page (blocks j free) (2 * q)) (has_page (blocks j free) (2 * q + 1)) (sym (halves-page (blocks j free) q) ∙ h) in
+    let both = and_parts (has_page (blocks j free) (2 * q)) (has_page (blocks j free) (2 * q + 1))
+    (sym (halves-page (blocks j free) q) ∙ h) in
     IsBlock-join free j q (blocks-block j free (2 * q) both.0) (blocks-block j free (2 * q + 1) both.1)
 
 pub block-blocks : (j : ℕ) (free : List Bool) (q : ℕ) → IsBlock free j q → IsTrue (has_page (blocks j free) q)
 block-blocks zero free q b = b.each q (omega arith) (omega arith)
 block-blocks (suc j) free q b =
-    halves-page (blocks j free) q ∙ and_from (has_page (blocks j free) (2 * q)) (has_page (blocks j free) (2 * q + 1)) (block-blocks j free (2 * q) (IsBlock-left free j q b)) (block-blocks j free (2 * q + 1) (IsBlock-right free j q b))
+    halves-page (blocks j free) q ∙ and_from (has_page (blocks j free) (2 * q))
+    (has_page (blocks j free) (2 * q + 1)) (block-blocks j free (2 * q) (IsBlock-left free j q b))
+    (block-blocks j free (2 * q + 1) (IsBlock-right free j q b))
 
 -- a block whose parent is not free lies in no larger block
 pub maximal_by_parent : (free : List Bool) (j q : ℕ) → IsBlock free j q → (IsBlock free (suc j) (q / 2) → ⊥) → IsMaximal free j q
@@ -90,11 +95,13 @@ maximal_by_parent free j q block no_parent = record {
   alone = λ i r more larger low high. no_parent (parent_free free j (i - suc j) q r i (omega arith) larger low high);
 }
   where
-    parent_free : (free : List Bool) (j d q r i : ℕ) → i ≡ suc j + d → IsBlock free i r → r * 2 ^ i ≤ q * 2 ^ j → q * 2 ^ j + 2 ^ j ≤ r * 2 ^ i + 2 ^ i → IsBlock free (suc j) (q / 2)
+    parent_free : (free : List Bool) (j d q r i : ℕ) → i ≡ suc j + d → IsBlock free i r → r * 2 ^ i ≤ q * 2 ^ j →
+        q * 2 ^ j + 2 ^ j ≤ r * 2 ^ i + 2 ^ i → IsBlock free (suc j) (q / 2)
     parent_free free j d q r i e larger low high =
         let larger' : IsBlock free (suc j + d) r = subst (λ (k : ℕ). IsBlock free k r) e larger in
         let low' : r * 2 ^ (suc j + d) ≤ q * 2 ^ j = subst (λ (k : ℕ). r * 2 ^ k ≤ q * 2 ^ j) e low in
-        let high' : q * 2 ^ j + 2 ^ j ≤ r * 2 ^ (suc j + d) + 2 ^ (suc j + d) = subst (λ (k : ℕ). q * 2 ^ j + 2 ^ j ≤ r * 2 ^ k + 2 ^ k) e high in
+        let high' : q * 2 ^ j + 2 ^ j ≤ r * 2 ^ (suc j + d) + 2 ^ (suc j + d) =
+        subst (λ (k : ℕ). q * 2 ^ j + 2 ^ j ≤ r * 2 ^ k + 2 ^ k) e high in
         let between = parent_between j d q r low' high' in
         HasRun-part free (r * 2 ^ (suc j + d)) (2 ^ (suc j + d)) (q / 2 * 2 ^ suc j) (2 ^ suc j) larger' between.0 between.1
 
@@ -109,10 +116,16 @@ parent_of_maximal free j q m parent =
 
 pub unmerged-maximal : (free : List Bool) (j q : ℕ) → IsTrue (has_page (unmerged (blocks j free)) q) → IsMaximal free j q
 unmerged-maximal free j q h =
-    let both = and_parts (has_page (blocks j free) q) (not (has_page (halves (blocks j free)) (q / 2))) (sym (unmerged-page (blocks j free) q) ∙ h) in
-    maximal_by_parent free j q (blocks-block j free q both.0) (λ parent. false≢true (sym (not-true (has_page (halves (blocks j free)) (q / 2)) both.1) ∙ block-blocks (suc j) free (q / 2) parent))
+    let both = and_parts (has_page (blocks j free) q) (not (has_page (halves (blocks j free)) (q / 2)))
+    (sym (unmerged-page (blocks j free) q) ∙ h) in
+    maximal_by_parent free j q (blocks-block j free q both.0)
+    (λ parent. false≢true (sym (not-true (has_page (halves (blocks j free)) (q / 2)) both.1)
+    ∙ block-blocks (suc j) free (q / 2) parent))
 
 pub maximal-unmerged : (free : List Bool) (j q : ℕ) → IsMaximal free j q → IsTrue (has_page (unmerged (blocks j free)) q)
 maximal-unmerged free j q m =
-    unmerged-page (blocks j free) q ∙ and_from (has_page (blocks j free) q) (not (has_page (halves (blocks j free)) (q / 2))) (block-blocks j free q m.block)
-    (not_from_false (has_page (halves (blocks j free)) (q / 2)) (false_from_ne_true (has_page (halves (blocks j free)) (q / 2)) (λ t. parent_of_maximal free j q m (blocks-block (suc j) free (q / 2) t))))
+    unmerged-page (blocks j free) q ∙ and_from (has_page (blocks j free) q)
+    (not (has_page (halves (blocks j free)) (q / 2))) (block-blocks j free q m.block)
+    (not_from_false (has_page (halves (blocks j free)) (q / 2))
+    (false_from_ne_true (has_page (halves (blocks j free)) (q / 2))
+    (λ t. parent_of_maximal free j q m (blocks-block (suc j) free (q / 2) t))))

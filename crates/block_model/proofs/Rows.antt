@@ -1,5 +1,5 @@
--- A worked space of 16 pages, computed by the definitions: grants of 3, 1, 5, 3 and 4 pages, and
--- what is free after two gives.
+-- A worked space of 16 pages, computed by the definitions: grants of 3, 1, 5, 3 and 4 pages, and what is free after
+-- two gives.
 use Rattle.std.proofs.Common.{◌≡◌, true, false, ◌++◌, ◌∷◌, [], take, replicate, Some, None, refl}
 use Rattle.block_model.specs.Block.{with_run}
 use Rattle.block_model.specs.Directory.{directory_page}
@@ -29,15 +29,19 @@ largest_then : largest (replicate 7 false ++ (replicate 1 true ++ (replicate 5 f
 unfolding largest
 largest_then = refl
 
-given_three : with_run (replicate 7 false ++ (replicate 1 true ++ (replicate 5 false ++ (replicate 3 true)))) 0 3 true ≡ replicate 3 true ++ (replicate 4 false ++ (replicate 1 true ++ (replicate 5 false ++ (replicate 3 true))))
+given_three : with_run (replicate 7 false
+    ++ (replicate 1 true ++ (replicate 5 false ++ (replicate 3 true)))) 0 3 true ≡ replicate 3 true
+    ++ (replicate 4 false ++ (replicate 1 true ++ (replicate 5 false ++ (replicate 3 true))))
 unfolding place
 given_three = refl
 
-largest_given : largest (replicate 3 true ++ (replicate 4 false ++ (replicate 1 true ++ (replicate 5 false ++ (replicate 3 true))))) ≡ Some 1
+largest_given : largest (replicate 3 true
+    ++ (replicate 4 false ++ (replicate 1 true ++ (replicate 5 false ++ (replicate 3 true))))) ≡ Some 1
 unfolding largest
 largest_given = refl
 
-largest_merged : largest (replicate 4 true ++ (replicate 3 false ++ (replicate 1 true ++ (replicate 5 false ++ (replicate 3 true))))) ≡ Some 2
+largest_merged : largest (replicate 4 true
+    ++ (replicate 3 false ++ (replicate 1 true ++ (replicate 5 false ++ (replicate 3 true))))) ≡ Some 2
 unfolding largest
 largest_merged = refl
 
@@ -70,5 +74,6 @@ unfolding least_order
 order_of_1 = refl
 
 -- the first bytes of the directory page of space 0 after 3 pages were granted
-first_directory : take 18 (directory_page 256 0 (replicate 3 false ++ replicate 13 true)) ≡ 68 ∷ 73 ∷ 82 ∷ 49 ∷ 0 ∷ 0 ∷ 0 ∷ 0 ∷ 0 ∷ 0 ∷ 0 ∷ 13 ∷ 0 ∷ 0 ∷ 0 ∷ 0 ∷ 31 ∷ 255 ∷ []
+first_directory : take 18 (directory_page 256 0 (replicate 3 false ++ replicate 13 true)) ≡ 68 ∷ 73 ∷ 82 ∷ 49 ∷ 0
+    ∷ 0 ∷ 0 ∷ 0 ∷ 0 ∷ 0 ∷ 0 ∷ 13 ∷ 0 ∷ 0 ∷ 0 ∷ 0 ∷ 31 ∷ 255 ∷ []
 first_directory = refl

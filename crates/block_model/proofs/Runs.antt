@@ -1,5 +1,6 @@
 -- Runs and blocks of a set of pages: parts of a run, a block's two halves, its parent, its bounds.
-use Rattle.std.proofs.Common.{inl, inr, ◌≡◌, ℕ, suc, zero, ◌+◌, ◌*◌, ◌/◌, ◌^◌, ◌<◌, ◌≤◌, ◌-◌, Bool, false, List, length, sym, ap, ◌∙◌, arith}
+use Rattle.std.proofs.Common.{inl, inr, ◌≡◌, ℕ, suc, zero, ◌+◌, ◌*◌, ◌/◌, ◌^◌, ◌<◌, ◌≤◌, ◌-◌, Bool, false, List}
+use Rattle.std.proofs.Common.{length, sym, ap, ◌∙◌, arith}
 use Rattle.std.proofs.Math.Nat.{pow-succ', mul-le-mul_right, le_of_mul-le-mul_right}
 use Rattle.std.proofs.lemmas.Nat.{pow_pos, pow-add}
 use Rattle.std.proofs.lemmas.List.{get_or_past}
@@ -38,10 +39,12 @@ doubled q j = let e : q * 2 ^ suc j ≡ q * (2 * 2 ^ j) = ap (λ x. q * x) (pow-
 
 -- the halves of a block are blocks of the order below, and two of those are a block
 pub IsBlock-left : (free : List Bool) (j q : ℕ) → IsBlock free (suc j) q → IsBlock free j (2 * q)
-IsBlock-left free j q b = HasRun-part free (q * 2 ^ suc j) (2 ^ suc j) (2 * q * 2 ^ j) (2 ^ j) b (omega (arith, doubled q j)) (omega (arith, doubled q j, pow-succ' 2 j))
+IsBlock-left free j q b = HasRun-part free (q * 2 ^ suc j) (2 ^ suc j) (2 * q * 2 ^ j)
+    (2 ^ j) b (omega (arith, doubled q j)) (omega (arith, doubled q j, pow-succ' 2 j))
 
 pub IsBlock-right : (free : List Bool) (j q : ℕ) → IsBlock free (suc j) q → IsBlock free j (2 * q + 1)
-IsBlock-right free j q b = HasRun-part free (q * 2 ^ suc j) (2 ^ suc j) ((2 * q + 1) * 2 ^ j) (2 ^ j) b (omega (arith, doubled q j)) (omega (arith, doubled q j, pow-succ' 2 j))
+IsBlock-right free j q b = HasRun-part free (q * 2 ^ suc j) (2 ^ suc j) ((2 * q + 1) * 2 ^ j)
+    (2 ^ j) b (omega (arith, doubled q j)) (omega (arith, doubled q j, pow-succ' 2 j))
 
 pub IsBlock-join : (free : List Bool) (j q : ℕ) → IsBlock free j (2 * q) → IsBlock free j (2 * q + 1) → IsBlock free (suc j) q
 IsBlock-join free j q left right = record {
@@ -76,7 +79,9 @@ parent_between j d q r low high =
     let whole : 2 ^ (suc j + d) ≡ 2 * (2 ^ d * 2 ^ j) = pow-add 2 (suc j) d ∙ ap (λ x. x * 2 ^ d) (pow-succ' 2 j) ∙ omega arith in
     let start : r * 2 ^ (suc j + d) ≡ r * (2 * (2 ^ d * 2 ^ j)) = ap (λ x. r * x) whole in
     let below : 2 * (r * 2 ^ d) ≤ q = le_of_mul-le-mul_right {m = 2 * (r * 2 ^ d)} {n = q} {k = 2 ^ j} (omega arith) (pow_pos j) in
-    let above : q + 1 ≤ 2 * (r * 2 ^ d) + 2 * 2 ^ d = le_of_mul-le-mul_right {m = q + 1} {n = 2 * (r * 2 ^ d) + 2 * 2 ^ d} {k = 2 ^ j} (omega arith) (pow_pos j) in
+    let above : q + 1 ≤ 2 * (r * 2 ^ d) + 2 * 2 ^ d =
+    le_of_mul-le-mul_right {m = q + 1} {n = 2 * (r * 2 ^ d) + 2 * 2 ^ d} {k = 2 ^ j} (omega arith)
+    (pow_pos j) in
     let low' : r * 2 ^ d * (2 * 2 ^ j) ≤ q / 2 * (2 * 2 ^ j) = mul-le-mul_right (2 * 2 ^ j) (omega arith) in
     let high' : (q / 2 + 1) * (2 * 2 ^ j) ≤ (r * 2 ^ d + 2 ^ d) * (2 * 2 ^ j) = mul-le-mul_right (2 * 2 ^ j) (omega arith) in
     let parent : q / 2 * 2 ^ suc j ≡ q / 2 * (2 * 2 ^ j) = ap (λ x. q / 2 * x) (pow-succ' 2 j) in

@@ -1,6 +1,8 @@
 -- Sets of pages, their blocks, and the block that a grant takes. A set of pages of a space is a
 -- list with one test a page. How a block is computed is left to Place.antt.
-use Rattle.std.specs.Prelude.{◌≡◌, ℕ, suc, ◌+◌, ◌*◌, ◌^◌, ◌<◌, ◌≤◌, Bool, false, IsTrue, List, ◌++◌, take, drop, replicate, slice_index_or, count_by, Option, Some, None}
+use Rattle.std.specs.Prelude.{◌≡◌, ℕ, suc, ◌+◌, ◌*◌, ◌^◌, ◌<◌, ◌≤◌, Bool, false, IsTrue, List}
+use Rattle.std.specs.Prelude.{◌++◌, take, drop, replicate, slice_index_or, count_by, Option, Some}
+use Rattle.std.specs.Prelude.{None}
 
 -- whether a page is in the set; a page past the end of the list is not
 abbrev pub has_page : List Bool → ℕ → Bool
@@ -17,7 +19,8 @@ IsBlock free order number = HasRun free (number * 2 ^ order) (2 ^ order)
 -- a block that lies in no larger block
 pub record IsMaximal (free : List Bool) (order number : ℕ) : Type 0 where
   pub block : IsBlock free order number
-  pub alone : (i r : ℕ) → order < i → IsBlock free i r → r * 2 ^ i ≤ number * 2 ^ order → number * 2 ^ order + 2 ^ order ≤ r * 2 ^ i + 2 ^ i → ⊥
+  pub alone : (i r : ℕ) → order < i → IsBlock free i r → r * 2 ^ i ≤ number * 2 ^ order →
+      number * 2 ^ order + 2 ^ order ≤ r * 2 ^ i + 2 ^ i → ⊥
 
 -- the least order whose blocks have n pages or more
 pub record IsOrder (n order : ℕ) : Type 0 where
@@ -38,12 +41,14 @@ pub record IsBest (free : List Bool) (n order number : ℕ) : Type 0 where
 -- where n pages are granted: from the first page of the best block on, and nowhere just where no
 -- block has n pages or more
 abbrev pub IsPlace : List Bool → ℕ → Option ℕ → Type 0
-IsPlace free n (Some page) = (order : ℕ) × (number : ℕ) × (page ≡ number * 2 ^ order) × IsBest free n order number
+IsPlace free n (Some page) = (order : ℕ) × (number : ℕ) × (page ≡ number * 2 ^ order)
+    × IsBest free n order number
 IsPlace free n None = HasNoRoom free n
 
 -- the greatest order of a block, or none where no page is free
 abbrev pub IsLargest : List Bool → Option ℕ → Type 0
-IsLargest free (Some order) = ((number : ℕ) × IsBlock free order number) × ((i r : ℕ) → IsBlock free i r → i ≤ order)
+IsLargest free (Some order) = ((number : ℕ) × IsBlock free order number)
+    × ((i r : ℕ) → IsBlock free i r → i ≤ order)
 IsLargest free None = HasNoRoom free 1
 
 -- one more than the greatest order of a block, and 0 where no page is free

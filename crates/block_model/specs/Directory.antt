@@ -4,7 +4,8 @@ use Rattle.std.specs.Int.{w32, to_be_bytes}
 use Rattle.block_model.specs.Block.{count_of}
 use Rattle.block_model.specs.Bitmap.{packed}
 
--- the mark, the number of the space, how many pages are free, a zero, the bitmap of the free pages, and zeros
+-- the mark, the number of the space, how many pages are free, a zero, the bitmap of the free
+-- pages, and zeros
 abbrev pub directory_page : ℕ → ℕ → List Bool → List ℕ
 directory_page size space free =
     codes "DIR1" ++ (to_be_bytes w32 space ++ (to_be_bytes w32 (count_of free) ++ (replicate 4 0

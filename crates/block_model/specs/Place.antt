@@ -1,7 +1,8 @@
 -- The place of a grant, the largest block and the order of a number of pages, computed on a list.
 -- Laws.antt proves that they are what Block.antt says. A proof that evaluates one of them names it
 -- in a line `unfolding`.
-use Rattle.std.specs.Prelude.{ℕ, ◌*◌, Bool, true, false, ◌&&◌, ◌||◌, not, if◌then◌else◌, nat_le, zero, suc, List, [], ◌∷◌, length, Option, Some, None}
+use Rattle.std.specs.Prelude.{ℕ, ◌*◌, Bool, true, false, ◌&&◌, ◌||◌, not, if◌then◌else◌, nat_le}
+use Rattle.std.specs.Prelude.{zero, suc, List, [], ◌∷◌, length, Option, Some, None}
 
 -- the blocks of the next order: two neighbours that are both free
 abbrev pub halves : List Bool → List Bool
@@ -37,7 +38,10 @@ found_at blocks size n = if nat_le n size then first_true (unmerged blocks) else
 abbrev pub place_from : ℕ → List Bool → ℕ → ℕ → Option ℕ
 place_from zero blocks size n = None
 place_from (suc levels) blocks size n =
-    elim (found_at blocks size n) [ Some q ↦ Some (q * size) | None ↦ place_from levels (halves blocks) (2 * size) n ]
+    elim (found_at blocks size n) [
+      | Some q ↦ Some (q * size)
+      | None ↦ place_from levels (halves blocks) (2 * size) n
+    ]
 
 -- the first of n pages that a grant takes, where there is room
 unfoldable pub place : List Bool → ℕ → Option ℕ
@@ -46,7 +50,11 @@ place free n = place_from (length free) free 1 n
 -- how many orders, of this one and the next `levels`, have a block
 abbrev pub orders_from : ℕ → List Bool → ℕ
 orders_from zero blocks = 0
-orders_from (suc levels) blocks = elim (is_any blocks) [ true ↦ suc (orders_from levels (halves blocks)) | false ↦ 0 ]
+orders_from (suc levels) blocks = elim (is_any blocks) [
+  | true ↦
+      suc (orders_from levels (halves blocks))
+  | false ↦ 0
+]
 
 -- one more than the greatest order of a block, and 0 where no page is free
 unfoldable pub hint_of : List Bool → ℕ

@@ -8,7 +8,7 @@ use Rattle.std.specs.Prelude.{IsTrue}
 use Rattle.block_model.specs.Block.{has_page, IsBlock, IsMaximal}
 use Rattle.block_model.proofs.Runs.{doubled}
 use Rattle.block_model.proofs.Levels.{maximal_by_parent}
-use Rattle.buddy_map.specs.Walk.{IsCut, IsFirstFree, IsLastOrder}
+use Rattle.buddy_map.specs.Walk.{IsBlockBorder, IsFirstFree, IsLastOrder}
 
 -- a multiple of 2 ^ j is one of 2 ^ i
 coarser : (i d q : ℕ) → q * 2 ^ (i + d) ≡ q * 2 ^ d * 2 ^ i
@@ -41,13 +41,15 @@ begins_with j i r q more less = begins_by j (i - j) i r q (omega arith) less
 first_page : (free : List Bool) (i r : ℕ) → IsBlock free i r → IsTrue (has_page free (r * 2 ^ i))
 first_page free i r b = b.each (r * 2 ^ i) (omega arith) (omega (arith, pow_pos i))
 
-pub none_earlier : (free : List Bool) (from first : ℕ) → IsFirstFree free from (Some first) → (i r : ℕ) → IsBlock free i r → from ≤ r * 2 ^ i → first ≤ r * 2 ^ i
+pub none_earlier : (free : List Bool) (from first : ℕ) → IsFirstFree free from (Some first) → (i r : ℕ) →
+    IsBlock free i r → from ≤ r * 2 ^ i → first ≤ r * 2 ^ i
 none_earlier free from first found i r b behind = elim (cases_lt (r * 2 ^ i) first) [
   | inl less ↦ absurd (found.2 (r * 2 ^ i) behind less (first_page free i r b))
   | inr ge ↦ ge
 ]
 
-pub cut_at_first : (free : List Bool) (from first : ℕ) → IsCut free from → IsFirstFree free from (Some first) → IsCut free first
+pub cut_at_first : (free : List Bool) (from first : ℕ) → IsBlockBorder free from →
+    IsFirstFree free from (Some first) → IsBlockBorder free first
 cut_at_first free from first cut found = record {
   ends = λ i r b less. elim (cases_lt (r * 2 ^ i) from) [
     | inl before ↦ omega (arith, cut.ends i r b before, found.0)
@@ -55,7 +57,8 @@ cut_at_first free from first cut found = record {
   ];
 }
 
-pub maximal_at_first : (free : List Bool) (first order : ℕ) → IsCut free first → (last : IsLastOrder free first order) → IsMaximal free order last.number
+pub maximal_at_first : (free : List Bool) (first order : ℕ) → IsBlockBorder free first →
+    (last : IsLastOrder free first order) → IsMaximal free order last.number
 maximal_at_first free first order cut last = maximal_by_parent free order last.number last.block (λ parent.
     let p : ℕ = last.number / 2 in
     let start : p * 2 ^ suc order ≡ 2 * (p * 2 ^ order) = doubled p order in
@@ -68,7 +71,8 @@ maximal_at_first free first order cut last = maximal_by_parent free order last.n
           omega (arith, cut.ends (suc order) p parent (omega (arith, pow_pos order)), pow-succ' 2 order, pow_pos order)
     ])
 
-pub cut_behind : (free : List Bool) (first order number : ℕ) → first ≡ number * 2 ^ order → IsMaximal free order number → IsCut free first → IsCut free (first + 2 ^ order)
+pub cut_behind : (free : List Bool) (first order number : ℕ) → first ≡ number * 2 ^ order →
+    IsMaximal free order number → IsBlockBorder free first → IsBlockBorder free (first + 2 ^ order)
 cut_behind free first order number begins maximal cut = record {
   ends = λ i r b less. elim (cases_lt (r * 2 ^ i) first) [
     | inl before ↦ omega (arith, cut.ends i r b before)
@@ -81,7 +85,8 @@ cut_behind free first order number begins maximal cut = record {
 }
 
 -- two maximal blocks that share the first page of one are of one order
-pub same_order : (free : List Bool) (i r j q : ℕ) → IsMaximal free i r → IsMaximal free j q → q * 2 ^ j ≤ r * 2 ^ i → r * 2 ^ i < q * 2 ^ j + 2 ^ j → i ≡ j
+pub same_order : (free : List Bool) (i r j q : ℕ) → IsMaximal free i r → IsMaximal free j q →
+    q * 2 ^ j ≤ r * 2 ^ i → r * 2 ^ i < q * 2 ^ j + 2 ^ j → i ≡ j
 same_order free i r j q inner outer low high = elim (cases_order i j) [
   | inl e ↦ e
   | inr (inl less) ↦ absurd (inner.alone j q less outer.block low (omega (arith, nested_end i j r (q + 1) (omega arith) (omega arith))))

@@ -2,7 +2,7 @@
 
 ghost use Rattle.std.specs.Prelude.{◌↔◌, ◌^◌, ◌<◌, ◌≤◌, length, IsTrue};
 ghost use Rattle.block_model.specs.Block.{has_page, HasRun, IsBlock};
-ghost use Rattle.buddy_map.specs.Walk.{IsCut, IsFirstFree, IsNextBlock, IsLastOrder};
+ghost use Rattle.buddy_map.specs.Walk.{IsBlockBorder, IsFirstFree, IsNextBlock, IsLastOrder};
 
 use crate::block::Block;
 
@@ -56,7 +56,7 @@ fn order_at(pages: &[bool], first: u32) -> u8
 /// The maximal block that begins at or after `from`, which no block reaches across.
 pub fn next_block(pages: &[bool], from: u32) -> Option<Block>
     requires short { length pages.now ≤ 2 ^ 14 }
-    requires cut { IsCut pages.now from }
+    requires cut { IsBlockBorder pages.now from }
     ensures { IsNextBlock pages.now from result }
 {
     let Some(first) = first_free(pages, from) else {

@@ -1,6 +1,7 @@
 //! The map of a space's free pages, and its calls.
 
-ghost use Rattle.std.specs.Prelude.{◌≡◌, ◌+◌, ◌*◌, ◌^◌, ◌<◌, ◌≤◌, Bool, true, false, List, length, replicate, IfOk, IfSome, IfNone};
+ghost use Rattle.std.specs.Prelude.{◌≡◌, ◌+◌, ◌*◌, ◌^◌, ◌<◌, ◌≤◌, Bool, true, false, List, length};
+ghost use Rattle.std.specs.Prelude.{replicate, IfOk, IfSome, IfNone};
 ghost use Rattle.block_model.specs.Block.{has_page, count_of, with_run, IsPlace, IsLargest};
 ghost use Rattle.block_model.specs.Place.{place, largest as greatest};
 ghost use Rattle.block_model.specs.Bitmap.{packed, unpacked};
@@ -67,8 +68,18 @@ impl BuddyMap {
         let Some(first) = place_of(&self.pages, n) else {
             return None;
         };
-        self.free -= remove_run(&mut self.pages, first, n);
+        self.take_out(first, n);
         Some(first)
+    }
+
+    /// Takes the `n` pages from `first` on out, wherever they stand: none of them is free
+    /// afterwards. It takes no memory.
+    pub fn take_out(&mut self, first: u32, n: u32)
+        requires { first + n ≤ length self.old }
+        ensures taken { self.new ≡ with_run self.old first n false }
+        ensures size { length self.new ≡ length self.old }
+    {
+        self.free -= remove_run(&mut self.pages, first, n);
     }
 
     /// Gives the `n` pages from `first` on back: the free pages become the union. It takes no

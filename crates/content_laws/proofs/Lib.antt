@@ -1,4 +1,3 @@
-pub mod PageCountLemmas
 pub mod SideLemmas
 pub mod PlanLemmas
 pub mod SpellingLemmas

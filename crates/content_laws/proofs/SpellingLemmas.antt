@@ -1,9 +1,12 @@
 -- The parts of a change spell the edited bytes, and so they do when they are merged.
-use Rattle.std.proofs.Common.{◌≡◌, ℕ, zero, suc, ◌+◌, ◌-◌, ◌*◌, ◌/◌, ◌%◌, ◌<◌, ◌≤◌, ◌&&◌, List, [], ◌∷◌, ◌++◌, length, map, take, drop, replicate, refl, sym, ap, subst, arith, ◌∙◌, inl, inr, append_assoc, length-append, length-take, length-drop, nat_eq, nat_lt, sum_by}
+use Rattle.std.proofs.Common.{◌≡◌, ℕ, zero, suc, ◌+◌, ◌-◌, ◌*◌, ◌/◌, ◌%◌, ◌<◌, ◌≤◌, ◌&&◌, List, [], ◌∷◌, ◌++◌}
+use Rattle.std.proofs.Common.{length, map, take, drop, replicate, refl, sym, ap, subst, arith, ◌∙◌, inl, inr}
+use Rattle.std.proofs.Common.{append_assoc, length-append, length-take, length-drop, nat_eq, nat_lt, sum_by}
 use Rattle.std.specs.List.{AllByRecursion}
 use Rattle.std.proofs.lemmas.Bool.{cases_Bool, eqb-true, ltb-true, ltb-false}
 use Rattle.std.proofs.lemmas.Nat.{div-add-mod'}
-use Rattle.std.proofs.lemmas.List.{append-nil, take-append-drop, take-take, take-append-le, take_at, drop_at, drop-drop, drop-take, drop-append-le, drop_all}
+use Rattle.std.proofs.lemmas.List.{append-nil, take-append-drop, take-take, take-append-le, take_at, drop_at}
+use Rattle.std.proofs.lemmas.List.{drop-drop, drop-take, drop-append-le, drop_all}
 use Rattle.std.proofs.lemmas.List.Concat.{flat_map-append}
 use Rattle.std.proofs.lemmas.List.Folds.{sum_by-replicate}
 use Rattle.std.proofs.lemmas.List.Sums.{sum_by-cons, sum_by-append}
@@ -23,9 +26,10 @@ use Rattle.layout_model.specs.declared.fit.Fit.{Fit}
 use Rattle.layout_model.specs.declared.fit.Fit.TheVariants.{Extend, Follow, Fresh}
 use Rattle.content_laws.specs.Spelling.{HaveBytes, IsThere, Spells, all_parts, edited_content, IsPacked, AreWritten, behind_last}
 use Rattle.layout_laws.proofs.MergingLemmas.{pack_from-merges, pack_from-keeps}
-use Rattle.content_laws.proofs.PageCountLemmas.{count-holds, count-rises, count-behind, count-none, count-full}
+use Rattle.tree_model.proofs.PageCountLaws.{count-holds, count-rises, count-behind, count-none, count-full, run_bytes-add}
 use Rattle.content_laws.proofs.SideLemmas.Lies.{Behind, Before, Inside}
-use Rattle.content_laws.proofs.SideLemmas.{front, back, lies, front-behind, front-before, front-inside, back-behind, back-before, back-inside, head-behind, head-within, head-ends}
+use Rattle.content_laws.proofs.SideLemmas.{front, back, lies, front-behind, front-before, front-inside, back-behind}
+use Rattle.content_laws.proofs.SideLemmas.{back-before, back-inside, head-behind, head-within, head-ends}
 use Rattle.content_laws.proofs.PlanLemmas.{outer_front, outer_back, plan-whole, window-whole}
 
 -- ---- the bytes of runs and segments
@@ -33,19 +37,6 @@ use Rattle.content_laws.proofs.PlanLemmas.{outer_front, outer_back, plan-whole, 
 -- the pages of a run are there, with all their bytes
 abbrev AreThere : Pages → ℕ → ℕ → ℕ → Type 0
 AreThere at size first count = (k : ℕ) → k < count → length (at (first + k)) ≡ size
-
-run-append : (at : Pages) (first a b : ℕ) → run_bytes at first (a + b) ≡ run_bytes at first a ++ run_bytes at (first + a) b
-run-append at first zero b =
-    let all : zero + b ≡ b = omega arith in
-    let here : first + zero ≡ first = omega arith in
-    ap (run_bytes at first) all ∙ ap (λ (f : ℕ). run_bytes at f b) (sym here)
-run-append at first (suc a) b =
-    let count : suc a + b ≡ suc (a + b) = omega arith in
-    let next : first + 1 + a ≡ first + suc a = omega arith in
-    ap (run_bytes at first) count
-    ∙ (ap (λ (xs : List ℕ). at first ++ xs) (run-append at (first + 1) a b)
-    ∙ (sym (append_assoc (at first) (run_bytes at (first + 1) a) (run_bytes at (first + 1 + a) b))
-    ∙ ap (λ (f : ℕ). (at first ++ run_bytes at (first + 1) a) ++ run_bytes at f b) next))
 
 run-length : (at : Pages) (size first count : ℕ) → AreThere at size first count → length (run_bytes at first count) ≡ count * size
 run-length at size first zero there = let none : 0 ≡ 0 * size = omega arith in none
@@ -77,7 +68,7 @@ segment-left at size p bytes some within there =
     let less = count-rises size bytes p.bytes some within in
     let split : all ≡ few + (all - few) = omega (arith, less) in
     let whole : run_bytes at p.page all ≡ run_bytes at p.page few ++ run_bytes at (p.page + few) (all - few) =
-    ap (run_bytes at p.page) split ∙ run-append at p.page few (all - few) in
+    ap (run_bytes at p.page) split ∙ run_bytes-add at p.page few (all - few) in
     let long = run-length at size p.page few (λ k below. there k (omega (arith, below, less))) in
     let holds = count-holds size bytes some in
     let fits : bytes ≤ length (run_bytes at p.page few) = omega (arith, long, holds) in
@@ -93,14 +84,17 @@ segment-right at size p pages some within there =
     let bytes : p.bytes ≡ pages * size + rest = omega (arith, within) in
     let count : all ≡ pages + page_count size rest = ap (page_count size) bytes ∙ count-behind size pages rest some in
     let whole : run_bytes at p.page all ≡ run_bytes at p.page pages ++ run_bytes at (p.page + pages) (page_count size rest) =
-    ap (run_bytes at p.page) count ∙ run-append at p.page pages (page_count size rest) in
+    ap (run_bytes at p.page) count ∙ run_bytes-add at p.page pages (page_count size rest) in
     let long = run-length at size p.page pages (λ k below. there k (omega (arith, below, count))) in
     sym (ap (λ (n : ℕ). drop (pages * size) (take n (run_bytes at p.page all))) bytes
     ∙ (drop-take (pages * size) rest (run_bytes at p.page all)
-    ∙ ap (take rest) (ap (drop (pages * size)) whole ∙ drop_at (run_bytes at p.page pages) (run_bytes at (p.page + pages) (page_count size rest)) (pages * size) long)))
+    ∙ ap (take rest) (ap (drop (pages * size)) whole
+    ∙ drop_at (run_bytes at p.page pages) (run_bytes at (p.page + pages) (page_count size rest))
+    (pages * size) long)))
 
 -- the content has as many bytes as the entries
-pub content-length : (at : Pages) (size : ℕ) (entries : List Pair) → 0 < size → AllByRecursion (IsThere at size) entries → length (content at size entries) ≡ bytes_of entries
+pub content-length : (at : Pages) (size : ℕ) (entries : List Pair) → 0 < size →
+    AllByRecursion (IsThere at size) entries → length (content at size entries) ≡ bytes_of entries
 content-length at size [] some there = refl
 content-length at size (p ∷ ps) some there =
     let both = length-append (segment_bytes at size p) (content at size ps) in
@@ -112,7 +106,8 @@ content-length at size (p ∷ ps) some there =
 -- ---- what spells what
 
 -- entries spell their content
-spells-kept : (at : Pages) (size : ℕ) (entries : List Pair) → 0 < size → AllByRecursion (IsThere at size) entries → Spells at size (map Keep entries) (content at size entries)
+spells-kept : (at : Pages) (size : ℕ) (entries : List Pair) → 0 < size → AllByRecursion (IsThere at size) entries →
+    Spells at size (map Keep entries) (content at size entries)
 spells-kept at size [] some there = refl
 spells-kept at size (p ∷ ps) some there =
     let long = segment-length at size p some there.0 in
@@ -120,12 +115,15 @@ spells-kept at size (p ∷ ps) some there =
     let fits : p.bytes ≤ length (segment_bytes at size p ++ content at size ps) = omega (arith, long, both) in (
       fits,
       take_at (segment_bytes at size p) (content at size ps) p.bytes long,
-      subst (Spells at size (map Keep ps)) (sym (drop_at (segment_bytes at size p) (content at size ps) p.bytes long)) (spells-kept at size ps some there.1),
+      subst (Spells at size (map Keep ps)) (sym (drop_at (segment_bytes at size p)
+          (content at size ps) p.bytes long)) (spells-kept at size ps some there.1),
     )
 
 -- the front spells the bytes before a place
-spells-front : (at : Pages) (size a : ℕ) (entries : List Pair) (rest : List Part) (bytes : List ℕ) → 0 < size → AllByRecursion (IsThere at size) entries →
-    a ≤ bytes_of entries → a ≤ length bytes → take a bytes ≡ take a (content at size entries) → Spells at size rest (drop a bytes) → Spells at size (map Keep (front a entries) ++ rest) bytes
+spells-front : (at : Pages) (size a : ℕ) (entries : List Pair) (rest : List Part) (bytes : List ℕ) → 0 < size →
+    AllByRecursion (IsThere at size) entries →
+    a ≤ bytes_of entries → a ≤ length bytes → take a bytes ≡ take a (content at size entries) →
+    Spells at size rest (drop a bytes) → Spells at size (map Keep (front a entries) ++ rest) bytes
 spells-front at size a [] rest bytes some there within long same spelled =
     let none : a ≤ 0 = within in
     let no_byte : a ≡ 0 = omega (arith, none) in
@@ -153,8 +151,12 @@ spells-front at size a (p ∷ ps) rest bytes some there within long same spelled
           let last : Spells at size rest (drop left (drop p.bytes bytes)) =
           subst (Spells at size rest) (sym (drop-drop left p.bytes bytes ∙ ap (λ (k : ℕ). drop k bytes) split)) spelled in
           let fits : p.bytes ≤ length bytes = omega (arith, le, long) in
-          subst P (sym (front-behind a p ps h))
-          (fits, first, spells-front at size left ps rest (drop p.bytes bytes) some there.1 (omega (arith, all, within, le)) (omega (arith, cut, long, le)) behind last)
+          subst P (sym (front-behind a p ps h)) (
+            fits,
+            first,
+            spells-front at size left ps rest (drop p.bytes bytes) some there.1
+                (omega (arith, all, within, le)) (omega (arith, cut, long, le)) behind last,
+          )
       | Before h k none less ↦ subst P (sym (front-before a p ps h k)) (subst (λ (j : ℕ). Spells at size rest (drop j bytes)) none spelled)
       | Inside h k byte less ↦
           let within_p : a ≤ p.bytes = omega (arith, less) in
@@ -168,14 +170,16 @@ spells-front at size a (p ∷ ps) rest bytes some there within long same spelled
 abbrev total : List ℕ → ℕ
 total ns = sum_by (λ n. n) ns
 
-spells-made : (at : Pages) (size : ℕ) (ns : List ℕ) (rest : List Part) (bytes : List ℕ) → total ns ≤ length bytes → Spells at size rest (drop (total ns) bytes) →
+spells-made : (at : Pages) (size : ℕ) (ns : List ℕ) (rest : List Part) (bytes : List ℕ) → total ns ≤ length bytes →
+    Spells at size rest (drop (total ns) bytes) →
     Spells at size (map Make ns ++ rest) bytes
 spells-made at size [] rest bytes fits spelled = spelled
 spells-made at size (n ∷ ns) rest bytes fits spelled =
     let all = sum_by-cons (λ (m : ℕ). m) n ns in
     let cut = length-drop n bytes in
     let first : n ≤ length bytes = omega (arith, all, fits) in
-    let same : drop (total ns) (drop n bytes) ≡ drop (total (n ∷ ns)) bytes = drop-drop (total ns) n bytes ∙ ap (λ (k : ℕ). drop k bytes) (sym all) in
+    let same : drop (total ns) (drop n bytes) ≡ drop (total (n ∷ ns)) bytes = drop-drop (total ns) n bytes
+    ∙ ap (λ (k : ℕ). drop k bytes) (sym all) in
     (first, spells-made at size ns rest (drop n bytes) (omega (arith, all, cut, fits)) (subst (Spells at size rest) (sym same) spelled))
 
 -- the pieces have all bytes
@@ -218,7 +222,8 @@ spells-back at size e (p ∷ ps) some there within =
           ap (drop (left + head_of size left ps)) (sym (drop_at seg more p.bytes count))
           ∙ (drop-drop (left + head_of size left ps) p.bytes (seg ++ more) ∙ ap (λ (k : ℕ). drop k (seg ++ more)) moved) in
           subst P (sym (back-behind size e p ps h))
-          (subst (Spells at size (map Keep (back size left ps))) same (spells-back at size left ps some there.1 (omega (arith, all, within, le))))
+          (subst (Spells at size (map Keep (back size left ps))) same
+          (spells-back at size left ps some there.1 (omega (arith, all, within, le))))
       | Before h k none byte ↦
           let step = head-within size e p ps h in
           let no_page : page_count size e ≡ 0 = ap (page_count size) none ∙ count-none size some in
@@ -234,11 +239,14 @@ spells-back at size e (p ∷ ps) some there within =
           (elim (cases_Bool (nat_lt (pages * size) p.bytes)) [
             | inl left ↦
                 let short = ltb-true (pages * size) p.bytes left in
-                let cut : without_pages size pages p ≡ record { bytes = p.bytes - pages * size; page = p.page + pages } ∷ [] = rw (left, without_pages) in
+                let cut : without_pages size pages p
+                ≡ record { bytes = p.bytes - pages * size; page = p.page + pages } ∷ [] =
+                rw (left, without_pages) in
                 let at_border : pages * size ≡ e + head = omega (arith, step, short, holds, less) in
                 let piece : Pair = record { bytes = p.bytes - pages * size; page = p.page + pages } in
                 let right = segment-right at size p pages some (omega (arith, short)) there.0 in
-                let tail : drop (pages * size) (seg ++ more) ≡ drop (pages * size) seg ++ more = drop-append-le (pages * size) seg more (omega (arith, count, short)) in
+                let tail : drop (pages * size) (seg ++ more) ≡ drop (pages * size) seg ++ more =
+                drop-append-le (pages * size) seg more (omega (arith, count, short)) in
                 let whole : drop (e + head) (seg ++ more) ≡ segment_bytes at size piece ++ more =
                 ap (λ (j : ℕ). drop j (seg ++ more)) (sym at_border) ∙ (tail ∙ ap (λ (xs : List ℕ). xs ++ more) (sym right)) in
                 let long : length (segment_bytes at size piece) ≡ p.bytes - pages * size =
@@ -248,7 +256,9 @@ spells-back at size e (p ∷ ps) some there within =
                 let spelled : Spells at size (map Keep (piece ∷ ps)) (segment_bytes at size piece ++ more) = (
                   fits,
                   take_at (segment_bytes at size piece) more (p.bytes - pages * size) long,
-                  subst (Spells at size (map Keep ps)) (sym (drop_at (segment_bytes at size piece) more (p.bytes - pages * size) long)) (spells-kept at size ps some there.1),
+                  subst (Spells at size (map Keep ps))
+                      (sym (drop_at (segment_bytes at size piece) more (p.bytes - pages * size) long))
+                      (spells-kept at size ps some there.1),
                 ) in
                 subst (λ (bs : List Pair). Spells at size (map Keep (bs ++ ps)) (drop (e + head) (seg ++ more))) (sym cut)
                 (subst (Spells at size (map Keep (piece ∷ ps))) (sym whole) spelled)
@@ -256,7 +266,8 @@ spells-back at size e (p ∷ ps) some there within =
                 let full = ltb-false (pages * size) p.bytes none in
                 let cut : without_pages size pages p ≡ [] = rw (none, without_pages) in
                 let at_end : p.bytes ≡ e + head = omega (arith, step, full, holds, less) in
-                let whole : drop (e + head) (seg ++ more) ≡ more = ap (λ (j : ℕ). drop j (seg ++ more)) (sym at_end) ∙ drop_at seg more p.bytes count in
+                let whole : drop (e + head) (seg ++ more) ≡ more = ap (λ (j : ℕ). drop j (seg ++ more)) (sym at_end)
+                ∙ drop_at seg more p.bytes count in
                 subst (λ (bs : List Pair). Spells at size (map Keep (bs ++ ps)) (drop (e + head) (seg ++ more))) (sym cut)
                 (subst (Spells at size (map Keep ps)) (sym whole) (spells-kept at size ps some there.1))
           ])
@@ -265,7 +276,8 @@ spells-back at size e (p ∷ ps) some there within =
 -- ---- merging
 
 -- what holds of the parts behind some holds behind them
-spells-after : (at : Pages) (size : ℕ) (front behind other : List Part) → ((bytes : List ℕ) → Spells at size behind bytes → Spells at size other bytes) →
+spells-after : (at : Pages) (size : ℕ) (front behind other : List Part) →
+    ((bytes : List ℕ) → Spells at size behind bytes → Spells at size other bytes) →
     (bytes : List ℕ) → Spells at size (front ++ behind) bytes → Spells at size (front ++ other) bytes
 spells-after at size [] behind other change bytes spelled = change bytes spelled
 spells-after at size (Keep p ∷ front) behind other change bytes spelled =
@@ -291,7 +303,8 @@ spells-merged at size part next rest bytes spelled =
     let fits : part_bytes part + part_bytes next ≤ length bytes = omega (arith, fits1, fits2, cut) in
     (fits, subst (Spells at size rest) (drop-drop (part_bytes next) (part_bytes part) bytes) two.1)
 
-spells-pack_from : (at : Pages) (size least : ℕ) (part : Part) (rest tail : List Part) (bytes : List ℕ) → Spells at size (part ∷ (rest ++ tail)) bytes →
+spells-pack_from : (at : Pages) (size least : ℕ) (part : Part) (rest tail : List Part) (bytes : List ℕ) →
+    Spells at size (part ∷ (rest ++ tail)) bytes →
     Spells at size (pack_from size least part rest ++ tail) bytes
 spells-pack_from at size least part [] tail bytes spelled = spelled
 spells-pack_from at size least part (next ∷ rest) tail bytes spelled =
@@ -299,7 +312,8 @@ spells-pack_from at size least part (next ∷ rest) tail bytes spelled =
     elim (cases_Bool (is_small size least part && is_small size least next)) [
       | inl both ↦
           subst P (sym (pack_from-merges size least part next rest both))
-          (spells-pack_from at size least (Make (part_bytes part + part_bytes next)) rest tail bytes (spells-merged at size part next (rest ++ tail) bytes spelled))
+          (spells-pack_from at size least (Make (part_bytes part + part_bytes next)) rest tail bytes
+          (spells-merged at size part next (rest ++ tail) bytes spelled))
       | inr apart ↦
           subst P (sym (pack_from-keeps size least part next rest apart))
           (spells-after at size (part ∷ []) (next ∷ (rest ++ tail)) (pack_from size least next rest ++ tail)
@@ -307,18 +321,22 @@ spells-pack_from at size least part (next ∷ rest) tail bytes spelled =
     ]
 
 -- merged parts spell what they spelled
-pub spells-pack : (at : Pages) (size least : ℕ) (front parts tail : List Part) (bytes : List ℕ) → Spells at size (front ++ (parts ++ tail)) bytes →
+pub spells-pack : (at : Pages) (size least : ℕ) (front parts tail : List Part) (bytes : List ℕ) →
+    Spells at size (front ++ (parts ++ tail)) bytes →
     Spells at size (front ++ (pack size least parts ++ tail)) bytes
 spells-pack at size least front [] tail bytes spelled = spelled
 spells-pack at size least front (part ∷ rest) tail bytes spelled =
-    spells-after at size front (part ∷ (rest ++ tail)) (pack_from size least part rest ++ tail) (spells-pack_from at size least part rest tail) bytes spelled
+    spells-after at size front (part ∷ (rest ++ tail)) (pack_from size least part rest ++ tail)
+    (spells-pack_from at size least part rest tail) bytes spelled
 
 -- ---- a change
 
 -- the two sides and the pieces between them spell the edited bytes
-spells-sides : (at : Pages) (size most : ℕ) (entries : List Pair) (change : Change) (payload : List ℕ) → 0 < size → AllByRecursion (IsThere at size) entries →
+spells-sides : (at : Pages) (size most : ℕ) (entries : List Pair) (change : Change) (payload : List ℕ) → 0 < size →
+    AllByRecursion (IsThere at size) entries →
     change.at + change.removed ≤ bytes_of entries → length payload ≡ change.added →
-    Spells at size (map Keep (front change.at entries) ++ (map Make (pieces most (change.added + head_of size (change.at + change.removed) entries))
+    Spells at size (map Keep (front change.at entries)
+    ++ (map Make (pieces most (change.added + head_of size (change.at + change.removed) entries))
     ++ map Keep (back size (change.at + change.removed) entries))) (edited_content at size entries change payload)
 spells-sides at size most entries change payload some there within paid =
     let a = change.at in
@@ -350,9 +368,11 @@ spells-sides at size most entries change payload some there within paid =
     (subst (Spells at size (map Keep (back size e entries))) (sym last) (spells-back at size e entries some there within))))
 
 -- the parts of a plan spell the edited bytes
-pub plan-spells : (at : Pages) (size least most : ℕ) (entries : List Pair) (spare : ℕ) (change : Change) (payload : List ℕ) → 0 < size → HaveBytes entries →
+pub plan-spells : (at : Pages) (size least most : ℕ) (entries : List Pair) (spare : ℕ) (change : Change)
+    (payload : List ℕ) → 0 < size → HaveBytes entries →
     AllByRecursion (IsThere at size) entries → change.at + change.removed ≤ bytes_of entries → length payload ≡ change.added →
-    Spells at size (all_parts entries (plan_packed size entries spare change (pack size least (parts_of size most entries change.at change.removed change.added))))
+    Spells at size (all_parts entries (plan_packed size entries spare change
+    (pack size least (parts_of size most entries change.at change.removed change.added))))
     (edited_content at size entries change payload)
 plan-spells at size least most entries spare change payload some have there within paid =
     let bytes = edited_content at size entries change payload in
@@ -361,10 +381,12 @@ plan-spells at size least most entries spare change payload some have there with
     let window = parts_of size most entries change.at change.removed change.added in
     subst (λ (parts : List Part). Spells at size parts bytes) (sym (plan-whole size least most entries spare change have))
     (spells-pack at size least fs window bs bytes
-    (subst (λ (parts : List Part). Spells at size parts bytes) (sym (window-whole size most entries change.at change.removed change.added have))
+    (subst (λ (parts : List Part). Spells at size parts bytes)
+    (sym (window-whole size most entries change.at change.removed change.added have))
     (spells-sides at size most entries change payload some there within paid)))
 
-pub planned-spells : (at : Pages) (n : Numbers) (threshold : ℕ) (entries : List Pair) (spare : ℕ) (change : Change) (payload : List ℕ) → 0 < n.page → HaveBytes entries →
+pub planned-spells : (at : Pages) (n : Numbers) (threshold : ℕ) (entries : List Pair) (spare : ℕ) (change : Change)
+    (payload : List ℕ) → 0 < n.page → HaveBytes entries →
     AllByRecursion (IsThere at n.page) entries → change.at + change.removed ≤ bytes_of entries → length payload ≡ change.added →
     IsPacked (fit_appended n.page entries spare change) →
     Spells at n.page (all_parts entries (planned n threshold entries spare change)) (edited_content at n.page entries change payload)
@@ -375,7 +397,8 @@ planned-spells at n threshold entries spare change payload some have there withi
   where
     go : (fit : Fit) → IsPacked fit →
         Spells at n.page (all_parts entries (plan_packed n.page entries spare change (pack n.page threshold
-        (parts_of n.page (space_pages n * n.page) entries change.at change.removed change.added)))) (edited_content at n.page entries change payload) →
+        (parts_of n.page (space_pages n * n.page) entries change.at change.removed change.added))))
+        (edited_content at n.page entries change payload) →
         Spells at n.page (all_parts entries (elim fit [
           | Extend ↦ plan_extended entries change
           | _ ↦ plan_packed n.page entries spare change (pack n.page threshold
@@ -403,7 +426,8 @@ laid-holds at now size (Make n ∷ rest) (run ∷ runs) bytes spelled written =
     ∙ take-append-drop n bytes))
 
 -- kept entries stay as they are
-pub laid-front : (size : ℕ) (xs : List Pair) (parts : List Part) (runs : List (List Extent)) → laid_parts size (map Keep xs ++ parts) runs ≡ xs ++ laid_parts size parts runs
+pub laid-front : (size : ℕ) (xs : List Pair) (parts : List Part) (runs : List (List Extent)) →
+    laid_parts size (map Keep xs ++ parts) runs ≡ xs ++ laid_parts size parts runs
 laid-front size [] parts runs = refl
 laid-front size (x ∷ xs) parts runs = ap (λ (ys : List Pair). x ∷ ys) (laid-front size xs parts runs)
 
@@ -411,7 +435,8 @@ pub laid-kept : (size : ℕ) (xs : List Pair) (runs : List (List Extent)) → la
 laid-kept size [] runs = refl
 laid-kept size (x ∷ xs) runs = ap (λ (ys : List Pair). x ∷ ys) (laid-kept size xs runs)
 
-pub laid-back : (size : ℕ) (parts : List Part) (xs : List Pair) (runs : List (List Extent)) → laid_parts size (parts ++ map Keep xs) runs ≡ laid_parts size parts runs ++ xs
+pub laid-back : (size : ℕ) (parts : List Part) (xs : List Pair) (runs : List (List Extent)) →
+    laid_parts size (parts ++ map Keep xs) runs ≡ laid_parts size parts runs ++ xs
 laid-back size [] xs runs = laid-kept size xs runs
 laid-back size (Keep p ∷ rest) xs runs = ap (λ (ys : List Pair). p ∷ ys) (laid-back size rest xs runs)
 laid-back size (Make n ∷ rest) xs [] = laid-back size rest xs []
@@ -420,7 +445,8 @@ laid-back size (Make n ∷ rest) xs (run ∷ runs) =
     ∙ sym (append_assoc (segments_on size n run) (laid_parts size rest runs) xs)
 
 pub laid-all : (size : ℕ) (entries : List Pair) (plan : Plan) (runs : List (List Extent)) →
-    laid_parts size (all_parts entries plan) runs ≡ take plan.from entries ++ (laid_parts size plan.parts runs ++ drop (plan.from + plan.count) entries)
+    laid_parts size (all_parts entries plan) runs ≡ take plan.from entries
+    ++ (laid_parts size plan.parts runs ++ drop (plan.from + plan.count) entries)
 laid-all size entries plan runs =
     laid-front size (take plan.from entries) (plan.parts ++ map Keep (drop (plan.from + plan.count) entries)) runs
     ∙ ap (λ (ys : List Pair). take plan.from entries ++ ys) (laid-back size plan.parts (drop (plan.from + plan.count) entries) runs)
@@ -453,7 +479,8 @@ segment-grown at size p count some full there =
     let left = segment-left at size grown p.bytes some within_p there in
     let right = segment-right at size grown pages some within there in
     let rest : (p.bytes + count) - pages * size ≡ count = omega (arith, bytes) in
-    let right_page : segment_bytes at size (record { bytes = count; page = p.page + page_count size p.bytes }) ≡ drop p.bytes (segment_bytes at size grown) =
+    let right_page : segment_bytes at size (record { bytes = count; page = p.page + page_count size p.bytes })
+    ≡ drop p.bytes (segment_bytes at size grown) =
     ap (λ (k : ℕ). segment_bytes at size (record { bytes = count; page = p.page + k })) counted
     ∙ (ap (λ (k : ℕ). segment_bytes at size (record { bytes = k; page = p.page + pages })) (sym rest)
     ∙ (right ∙ ap (λ (k : ℕ). drop k (segment_bytes at size grown)) (sym bytes))) in
@@ -461,7 +488,8 @@ segment-grown at size p count some full there =
     ∙ (ap (λ (xs : List ℕ). take p.bytes (segment_bytes at size grown) ++ xs) right_page
     ∙ take-append-drop p.bytes (segment_bytes at size grown)))
 
-pub extended-content : (at : Pages) (size : ℕ) (entries : List Pair) (change : Change) → 0 < size → 0 < length entries → (last_entry entries).bytes % size ≡ 0 →
+pub extended-content : (at : Pages) (size : ℕ) (entries : List Pair) (change : Change) → 0 < size →
+    0 < length entries → (last_entry entries).bytes % size ≡ 0 →
     IsThere at size (record { bytes = (last_entry entries).bytes + change.added; page = (last_entry entries).page }) →
     content at size (laid_parts size (all_parts entries (plan_extended entries change)) [])
     ≡ content at size entries ++ segment_bytes at size (behind_last size entries change.added)
@@ -471,7 +499,8 @@ extended-content at size entries change some any full there =
     let new : Pair = behind_last size entries change.added in
     let front = take (length entries - 1) entries in
     let count : length entries - 1 + 1 ≡ length entries = omega (arith, any) in
-    let nothing : drop (length entries - 1 + 1) entries ≡ [] = ap (λ (k : ℕ). drop k entries) count ∙ drop_all (length entries) entries (omega arith) in
+    let nothing : drop (length entries - 1 + 1) entries ≡ [] = ap (λ (k : ℕ). drop k entries) count
+    ∙ drop_all (length entries) entries (omega arith) in
     let seg = segment_bytes at size in
     laid-back-content front grown nothing
     ∙ (ap (λ (xs : List ℕ). content at size front ++ (xs ++ [])) (segment-grown at size p change.added some full there)
@@ -479,11 +508,14 @@ extended-content at size entries change some any full there =
     ∙ ap (λ (xs : List ℕ). xs ++ seg new) (sym (ap (content at size) (last-split entries any) ∙ flat_map-append seg front (p ∷ [])))))
   where
     laid-back-content : (front : List Pair) (grown : Pair) → drop (length entries - 1 + 1) entries ≡ [] →
-        content at size (laid_parts size (map Keep (take (length entries - 1) entries) ++ ((Keep grown ∷ []) ++ map Keep (drop (length entries - 1 + 1) entries))) [])
+        content at size (laid_parts size (map Keep (take (length entries - 1) entries)
+        ++ ((Keep grown ∷ []) ++ map Keep (drop (length entries - 1 + 1) entries))) [])
         ≡ content at size (take (length entries - 1) entries) ++ (segment_bytes at size grown ++ [])
     laid-back-content front grown nothing =
-        ap (content at size) (laid-front size (take (length entries - 1) entries) ((Keep grown ∷ []) ++ map Keep (drop (length entries - 1 + 1) entries)) [])
-        ∙ (ap (λ (xs : List Pair). content at size (take (length entries - 1) entries ++ laid_parts size ((Keep grown ∷ []) ++ map Keep xs) [])) nothing
+        ap (content at size) (laid-front size (take (length entries - 1) entries)
+        ((Keep grown ∷ []) ++ map Keep (drop (length entries - 1 + 1) entries)) [])
+        ∙ (ap (λ (xs : List Pair). content at size
+        (take (length entries - 1) entries ++ laid_parts size ((Keep grown ∷ []) ++ map Keep xs) [])) nothing
         ∙ flat_map-append (segment_bytes at size) (take (length entries - 1) entries) (grown ∷ []))
 
     regroup : (a b c : List ℕ) → a ++ ((b ++ c) ++ []) ≡ (a ++ (b ++ [])) ++ c

@@ -1,9 +1,10 @@
-//! Laws on the bytes of a change: the parts of a plan spell the edited bytes, merged or not, and what is
-//! laid out on written pages holds them.
+//! Laws on the bytes of a change: the parts of a plan spell the edited bytes, merged or not, and
+//! what is laid out on written pages holds them.
 //!
-//! Each law is a function with no argument and no code, whose clause is the law. Of the lemmas in `proofs/`,
-//! which crates above cite, `PageCountLemmas.antt` is on the pages that bytes fill, `SideLemmas.antt` on the
-//! entries on both sides of a change, and `PlanLemmas.antt` on the whole list of parts in a plan.
+//! Each law is a function with no argument and no code, whose clause is the law. Of the lemmas in
+//! `proofs/`, which crates above cite, `SideLemmas.antt` is on the entries on both sides of a
+//! change, and
+//! `PlanLemmas.antt` on the whole list of parts in a plan.
 #![tactic(auto)]
 
 mod spelling;

@@ -2,12 +2,8 @@
 use Rattle.std.proofs.Common.{ℕ, ◌≡◌, ◌≤◌, ◌+◌, ◌-◌, Option, Some, None, List, ◌++◌, length, take, drop, sym, ◌∙◌, ap, arith, append_assoc}
 use Rattle.std.proofs.Math.Seq.{take-add}
 use Rattle.std.proofs.lemmas.List.{drop-drop, take-append-drop}
-use Rattle.edge_io.specs.Moved.{Appends, GaveFront, Reads, ReadMoves}
-
--- two pieces appended are their join appended
-pub Appends-append : (x y : List ℕ) (before mid after : Option (List ℕ)) → Appends x before mid → Appends y mid after → Appends (x ++ y) before after
-Appends-append x y None mid after p q = rw p at q
-Appends-append x y (Some taken) mid after p q = (rw p at q) ∙ ap Some (append_assoc taken x y)
+use Rattle.edge_io.specs.Moved.{Appends, GaveFront, GaveBytes, ReadMoves}
+use Rattle.edge_io.proofs.MovedLaws.{Appends-append}
 
 -- the place at which what is left after n more bytes begins
 pub later-rest : (bytes rest after : List ℕ) (n : ℕ) → length rest ≤ length bytes → length after + n ≡ length rest
@@ -35,11 +31,13 @@ rest-more bytes rest after n h e r a =
     ∙ ap (λ (k : ℕ). drop k bytes) (sym (later-rest bytes rest after n h e))
 
 -- one more read: what was read so far grows by the piece
-pub GaveFront-more : (given piece : List ℕ) (n : ℕ) (before mid after : Option (List ℕ)) → GaveFront given before mid → ReadMoves n piece mid after → GaveFront (given ++ take n piece) before after
+pub GaveFront-more : (given piece : List ℕ) (n : ℕ) (before mid after : Option (List ℕ)) →
+    GaveFront given before mid → ReadMoves n piece mid after → GaveFront (given ++ take n piece) before after
 GaveFront-more given piece n None mid after p q = rw p at q
 GaveFront-more given piece n (Some bytes) mid after p q =
-    let read : Reads n piece p.0 after = rw p.2 at q in
-    let split : p.0 ≡ take n piece ++ drop n p.0 = sym (take-append-drop n p.0) ∙ ap (λ (xs : List ℕ). xs ++ drop n p.0) (sym read.front) in (
+    let read : GaveBytes n piece p.0 after = rw p.2 at q in
+    let split : p.0 ≡ take n piece ++ drop n p.0 = sym (take-append-drop n p.0)
+    ∙ ap (λ (xs : List ℕ). xs ++ drop n p.0) (sym read.front) in (
       drop n p.0,
       p.1 ∙ ap (λ (xs : List ℕ). given ++ xs) split ∙ sym (append_assoc given (take n piece) (drop n p.0)),
       read.rest,

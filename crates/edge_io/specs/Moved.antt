@@ -1,9 +1,10 @@
 -- What a source has left and what a sink has taken: a list of bytes where it is told, else `None`.
-use Rattle.std.specs.Prelude.{ℕ, ◌≡◌, ◌≤◌, ◌<◌, ◌↔◌, Option, Some, None, List, [], ◌++◌, length, take, drop}
+use Rattle.std.specs.Prelude.{ℕ, ◌≡◌, ◌≤◌, ◌<◌, ◌↔◌, Option, Some, None, List, [], ◌++◌, length}
+use Rattle.std.specs.Prelude.{take, drop}
 
 -- one read of n bytes into the front of `out`: those are the first n bytes that were left, the rest
 -- is left after it, and n is 0 exactly where nothing was left
-pub record Reads (n : ℕ) (out bytes : List ℕ) (after : Option (List ℕ)) : Type 0 where
+pub record GaveBytes (n : ℕ) (out bytes : List ℕ) (after : Option (List ℕ)) : Type 0 where
   pub enough : n ≤ length bytes
   pub front : take n out ≡ take n bytes
   pub rest : after ≡ Some (drop n bytes)
@@ -12,7 +13,7 @@ pub record Reads (n : ℕ) (out bytes : List ℕ) (after : Option (List ℕ)) : 
 -- that read, where what is left is told; what isn't told stays untold
 abbrev pub ReadMoves : ℕ → List ℕ → Option (List ℕ) → Option (List ℕ) → Type 0
 ReadMoves n out None after = after ≡ None
-ReadMoves n out (Some bytes) after = Reads n out bytes after
+ReadMoves n out (Some bytes) after = GaveBytes n out bytes after
 
 -- `given` was read so far: it is the front of what was left before, and the rest is left
 abbrev pub GaveFront : List ℕ → Option (List ℕ) → Option (List ℕ) → Type 0

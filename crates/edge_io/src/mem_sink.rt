@@ -1,10 +1,12 @@
 //! A sink over memory, whose calls of chosen numbers fail.
-ghost use Rattle.std.specs.Prelude.{◌≡◌, ◌<◌, ◌≤◌, Some, [], length, take, IsErr, IfOk, OnErr, OnOk};
-ghost use Rattle.edge_io.specs.Cause.{HasCause};
+ghost use Rattle.std.specs.Prelude.{◌≡◌, ◌<◌, ◌≤◌, Some, [], length, take, IsErr, IfOk, OnErr};
+ghost use Rattle.std.specs.Prelude.{OnOk};
+ghost use Rattle.fault_count.specs.Counts.{HasCause};
 ghost use Rattle.edge_io.specs.Moved.{Appends};
-ghost use Rattle.edge_io.specs.Doubles.{call_fails, is_fault, raised};
+ghost use Rattle.edge_io.specs.Doubles.{IsCall, is_fault};
 
 use crate::sink::{Sink, SinkFail};
+use fault_count::counted;
 use std::alloc::Global;
 use std::marker::Model;
 
@@ -68,13 +70,12 @@ impl Sink for MemSink {
 
         // What this sink does besides: it takes all at once, and which calls fail.
         ensures whole { IfOk result (λ n. n ≡ length bytes.now) }
-        ensures fails { is_fault result ≡ call_fails self.old.failing self.old.calls }
-        ensures calls { self.new.calls ≡ raised self.old.calls }
-        ensures same { self.new.failing ≡ self.old.failing }
+        ensures call { IsCall (is_fault result) self.old.failing self.new.failing self.old.calls
+            self.new.calls }
     {
-        self.calls = self.calls.saturating_add(1);
+        self.calls = counted(self.calls, 1);
         if self.fail.contains(&self.calls) {
-            self.faults = self.faults.saturating_add(1);
+            self.faults = counted(self.faults, 1);
             return Err(SinkFail::Fault);
         }
         if self.bytes.extend_from_slice(bytes).is_err() {

@@ -1,10 +1,12 @@
 //! A source over memory, whose calls of chosen numbers fail.
-ghost use Rattle.std.specs.Prelude.{◌≡◌, ◌<◌, ◌≤◌, Some, [], length, take, drop, min, is_err, IsErr, IfOk, OnErr};
-ghost use Rattle.edge_io.specs.Cause.{HasCause};
+ghost use Rattle.std.specs.Prelude.{◌≡◌, ◌<◌, ◌≤◌, Some, [], length, take, drop, min, is_err};
+ghost use Rattle.std.specs.Prelude.{IsErr, IfOk, OnErr};
+ghost use Rattle.fault_count.specs.Counts.{HasCause};
 ghost use Rattle.edge_io.specs.Moved.{ReadMoves};
-ghost use Rattle.edge_io.specs.Doubles.{call_fails, raised};
+ghost use Rattle.edge_io.specs.Doubles.{IsCall};
 
 use crate::source::{Fault, Source};
+use fault_count::counted;
 use std::marker::Model;
 
 /// Gives the bytes that it was made from, a piece at a time.
@@ -75,13 +77,13 @@ impl Source for MemSource {
         // What this source does besides: how much it gives, and which calls fail.
         ensures count { IfOk result (λ n.
             n ≡ min (min (length out.old) self.old.piece) (length self.old.left)) }
-        ensures fails { is_err result ≡ call_fails self.old.failing self.old.calls }
-        ensures calls { self.new.calls ≡ raised self.old.calls }
-        ensures same { (self.new.failing ≡ self.old.failing) × (self.new.piece ≡ self.old.piece) }
+        ensures call { IsCall (is_err result) self.old.failing self.new.failing self.old.calls
+            self.new.calls }
+        ensures piece { self.new.piece ≡ self.old.piece }
     {
-        self.calls = self.calls.saturating_add(1);
+        self.calls = counted(self.calls, 1);
         if self.fail.contains(&self.calls) {
-            self.faults = self.faults.saturating_add(1);
+            self.faults = counted(self.faults, 1);
             return Err(Fault);
         }
         let (_, rest) = self.bytes.split_at(self.at);

@@ -1,6 +1,6 @@
 //! Reads a source to its end, up to a limit.
 ghost use Rattle.std.specs.Prelude.{◌≡◌, ◌≤◌, ℕ, List, length, vec_len, IfOk, OnErr};
-ghost use Rattle.edge_io.specs.Cause.{HasCause};
+ghost use Rattle.fault_count.specs.Counts.{HasCause};
 ghost use Rattle.edge_io.specs.Moved.{GaveAll, GaveFront, HasMore};
 
 use crate::source::{Fault, Source};

@@ -1,6 +1,6 @@
 //! What bytes are written to.
 ghost use Rattle.std.specs.Prelude.{◌≡◌, ℕ, ◌<◌, ◌≤◌, length, take, Option, List, IfOk, OnErr};
-ghost use Rattle.edge_io.specs.Cause.{HasCause};
+ghost use Rattle.fault_count.specs.Counts.{HasCause};
 ghost use Rattle.edge_io.specs.Moved.{Appends};
 
 /// Why a sink took nothing.

@@ -1,6 +1,6 @@
 //! What bytes are read from.
 ghost use Rattle.std.specs.Prelude.{◌≡◌, ℕ, ◌<◌, ◌≤◌, length, Option, List, IfOk, OnErr, IsErr};
-ghost use Rattle.edge_io.specs.Cause.{HasCause};
+ghost use Rattle.fault_count.specs.Counts.{HasCause};
 ghost use Rattle.edge_io.specs.Moved.{ReadMoves};
 
 /// A source's call failed.

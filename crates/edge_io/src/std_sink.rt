@@ -1,10 +1,11 @@
-//! A sink over a writer of the standard library, which tells nothing of its bytes. What the writer itself
-//! tells is said of each write.
+//! A sink over a writer of the standard library, which tells nothing of its bytes. What the writer
+//! itself tells is said of each write.
 ghost use Rattle.std.specs.Prelude.{◌≡◌, ℕ, ◌<◌, ◌≤◌, length, take, None, IfOk, OnErr};
 ghost use Rattle.std.specs.Io.KnownBytes.{Appends, Keeps};
-ghost use Rattle.edge_io.specs.Cause.{HasCause};
+ghost use Rattle.fault_count.specs.Counts.{HasCause};
 
 use crate::sink::{Sink, SinkFail};
+use fault_count::counted;
 use std::io::Write;
 
 /// Writes to `writer`. Each call of it that fails, or takes nothing, counts as a fault.
@@ -34,16 +35,19 @@ impl<W: Write> Sink for StdSink<W> {
         ensures within { IfOk result (λ n. n ≤ length bytes.now) }
         ensures cause { HasCause self.old.faults self.new.faults (result ≡ Err SinkFail.Fault) }
 
-        // The writer holds the first n bytes more, where it tells what it holds; after a fault none.
-        ensures appends { IfOk result (λ n. Appends (W.contents self.old.writer) (W.contents self.new.writer)
+        // The writer holds the first n bytes more, where it tells what it holds; after a fault
+        // none.
+        ensures appends { IfOk result (λ n. Appends (W.contents self.old.writer)
+            (W.contents self.new.writer)
             (take n bytes.now)) }
-        ensures stays { OnErr result (Keeps (W.contents self.old.writer) (W.contents self.new.writer)) }
+        ensures stays { OnErr result (Keeps (W.contents self.old.writer)
+            (W.contents self.new.writer)) }
         ensures fault { OnErr result (result ≡ Err SinkFail.Fault) }
     {
         match self.writer.write(bytes) {
             Ok(count) if count > 0 => Ok(count),
             _ => {
-                self.faults = self.faults.saturating_add(1);
+                self.faults = counted(self.faults, 1);
                 Err(SinkFail::Fault)
             }
         }

@@ -1,6 +1,6 @@
 //! Writes all of some bytes to a sink.
 ghost use Rattle.std.specs.Prelude.{◌≡◌, OnOk, OnErr};
-ghost use Rattle.edge_io.specs.Cause.{HasCause};
+ghost use Rattle.fault_count.specs.Counts.{HasCause};
 ghost use Rattle.edge_io.specs.Moved.{Appends, AppendsPart};
 
 use crate::sink::{Sink, SinkFail};

@@ -1,6 +1,7 @@
 -- Of two neighbours in a changed object one at least isn't small: within the merged parts, and where they meet the
 -- entries before and behind them.
-use Rattle.std.proofs.Common.{◌≡◌, ℕ, ◌+◌, ◌-◌, Bool, true, false, ◌&&◌, List, [], ◌∷◌, ◌++◌, length, map, take, drop, refl, sym, ap, subst, arith, ◌∙◌, ◌⊎◌, inl, inr, append_assoc}
+use Rattle.std.proofs.Common.{◌≡◌, ℕ, ◌+◌, ◌-◌, Bool, true, false, ◌&&◌, List, [], ◌∷◌, ◌++◌, length, map, take}
+use Rattle.std.proofs.Common.{drop, refl, sym, ap, subst, arith, ◌∙◌, ◌⊎◌, inl, inr, append_assoc}
 use Rattle.std.proofs.lemmas.Bool.{cases_Bool, false≢true, and_parts, and_cases, and_left, and_right, ltb-false, le-ltb}
 use Rattle.std.proofs.lemmas.List.{append-nil, map-append, take-append-drop}
 use Rattle.tree_model.specs.declared.entry.Pair.{Pair}
@@ -8,14 +9,16 @@ use Rattle.tree_model.specs.Tree.{page_count}
 use Rattle.layout_model.specs.declared.part.Part.{Part}
 use Rattle.layout_model.specs.declared.part.Part.TheVariants.{Keep, Make}
 use Rattle.layout_model.specs.declared.change.Change.{Change}
-use Rattle.layout_model.specs.Parts.{part_bytes, ended, begun, one_before, one_after, left_of, head_of, right_of, pieces, parts_of}
+use Rattle.layout_model.specs.Parts.{part_bytes, count_ended, count_begun, one_before, one_after, left_of, head_of}
+use Rattle.layout_model.specs.Parts.{right_of, pieces, parts_of}
 use Rattle.layout_model.specs.Pack.{is_small, pack_from, pack, Packed}
 use Rattle.layout_model.specs.Plan.{plan_packed}
 use Rattle.layout_laws.specs.Merging.{AreApart}
 use Rattle.layout_laws.proofs.MergingLemmas.{pack_from-merges, pack_from-keeps, pack-apart}
 use Rattle.content_laws.specs.Spelling.{HaveBytes, all_parts}
-use Rattle.content_laws.proofs.SideLemmas.{ended-within_list}
-use Rattle.content_laws.proofs.PlanLemmas.{outer_front, outer_back, outer_front-is, outer_back-is, plan-whole, pack_from-some, last_of, first_of_list}
+use Rattle.content_laws.proofs.SideLemmas.{count_ended-within_list}
+use Rattle.content_laws.proofs.PlanLemmas.{outer_front, outer_back, outer_front-is, outer_back-is, plan-whole}
+use Rattle.content_laws.proofs.PlanLemmas.{pack_from-some, last_of, first_of_list}
 
 -- ---- neighbours in a list
 
@@ -33,7 +36,8 @@ LastApart size least [] z = Unit {0}
 LastApart size least (x ∷ []) z = both size least x z ≡ false
 LastApart size least (x ∷ y ∷ rest) z = LastApart size least (y ∷ rest) z
 
-pub apart-cons : (size least : ℕ) (x : Part) (parts : List Part) → FirstApart size least x parts → AreApart size least parts → AreApart size least (x ∷ parts)
+pub apart-cons : (size least : ℕ) (x : Part) (parts : List Part) → FirstApart size least x parts →
+    AreApart size least parts → AreApart size least (x ∷ parts)
 apart-cons size least x [] first rest = tt
 apart-cons size least x (y ∷ parts) first rest = (first, rest)
 
@@ -51,21 +55,24 @@ record Split (size least : ℕ) (xs : List Part) (y : Part) (ys : List Part) : T
   border : LastApart size least xs y
   right : AreApart size least (y ∷ ys)
 
-apart-split : (size least : ℕ) (xs : List Part) (y : Part) (ys : List Part) → AreApart size least (xs ++ (y ∷ ys)) → Split size least xs y ys
+apart-split : (size least : ℕ) (xs : List Part) (y : Part) (ys : List Part) → AreApart size least (xs ++ (y ∷ ys)) →
+    Split size least xs y ys
 apart-split size least [] y ys apart = record { left = tt; border = tt; right = apart }
 apart-split size least (x ∷ []) y ys apart = record { left = tt; border = apart.0; right = apart.1 }
 apart-split size least (x ∷ x2 ∷ xs) y ys apart =
     let more = apart-split size least (x2 ∷ xs) y ys apart.1 in
     record { left = (apart.0, more.left); border = more.border; right = more.right }
 
-apart-joined : (size least : ℕ) (xs : List Part) (y : Part) (ys : List Part) → AreApart size least xs → LastApart size least xs y → AreApart size least (y ∷ ys) →
+apart-joined : (size least : ℕ) (xs : List Part) (y : Part) (ys : List Part) → AreApart size least xs →
+    LastApart size least xs y → AreApart size least (y ∷ ys) →
     AreApart size least (xs ++ (y ∷ ys))
 apart-joined size least [] y ys left border right = right
 apart-joined size least (x ∷ []) y ys left border right = (border, right)
 apart-joined size least (x ∷ x2 ∷ xs) y ys left border right = (left.0, apart-joined size least (x2 ∷ xs) y ys left.1 border right)
 
 -- where the next one is small the last is large, beside whatever comes
-last-small : (size least : ℕ) (xs : List Part) (q z : Part) → LastApart size least xs q → is_small size least q ≡ true → LastApart size least xs z
+last-small : (size least : ℕ) (xs : List Part) (q z : Part) → LastApart size least xs q →
+    is_small size least q ≡ true → LastApart size least xs z
 last-small size least [] q z border small = tt
 last-small size least (x ∷ []) q z border small =
     elim (and_cases (is_small size least x) (is_small size least q) border) [
@@ -102,7 +109,8 @@ apart-packed size least (p ∷ q ∷ rest) apart = (
 
 -- they begin with the first part, or that is small
 pack_from-first : (size least : ℕ) (part : Part) (rest : List Part) →
-    (first : Part) × (tail : List Part) × (pack_from size least part rest ≡ first ∷ tail) × ((first ≡ part) ⊎ (is_small size least part ≡ true))
+    (first : Part) × (tail : List Part) × (pack_from size least part rest ≡ first ∷ tail)
+    × ((first ≡ part) ⊎ (is_small size least part ≡ true))
 pack_from-first size least part [] = (part, [], refl, inl refl)
 pack_from-first size least part (next ∷ rest) =
     elim (cases_Bool (is_small size least part && is_small size least next)) [
@@ -137,12 +145,14 @@ pack_from-last size least part (m ∷ mid) q z apart =
       | inr kept ↦
           let inner = pack_from-last size least m mid q z apart in
           let some = pack_from-some size least m (mid ++ (Keep q ∷ [])) in
-          let moved : LastApart size least (part ∷ some.0 ∷ some.1) z = subst (λ (xs : List Part). LastApart size least xs z) some.2 inner in
+          let moved : LastApart size least (part ∷ some.0 ∷ some.1) z =
+          subst (λ (xs : List Part). LastApart size least xs z) some.2 inner in
           subst (λ (xs : List Part). LastApart size least xs z) (sym (pack_from-keeps size least part m (mid ++ (Keep q ∷ [])) kept))
           (subst (λ (xs : List Part). LastApart size least (part ∷ xs) z) (sym some.2) moved)
     ]
 
-pack-last : (size least : ℕ) (pre : List Part) (q : Pair) (z : Part) → both size least (Keep q) z ≡ false → LastApart size least (pack size least (pre ++ (Keep q ∷ []))) z
+pack-last : (size least : ℕ) (pre : List Part) (q : Pair) (z : Part) → both size least (Keep q) z ≡ false →
+    LastApart size least (pack size least (pre ++ (Keep q ∷ []))) z
 pack-last size least [] q z apart = apart
 pack-last size least (part ∷ mid) q z apart = pack_from-last size least part mid q z apart
 
@@ -156,11 +166,14 @@ back-apart size least pre q (y ∷ bs) apart =
     (pack-last size least pre q (Keep y) apart.0) apart.1
 
 -- and with those before them
-front-apart : (size least : ℕ) (fs : List Pair) (p : Pair) (rest : List Part) (tail : List Part) → AreApart size least (map Keep fs) → LastApart size least (map Keep fs) (Keep p) →
-    AreApart size least (pack_from size least (Keep p) rest ++ tail) → AreApart size least (map Keep fs ++ (pack_from size least (Keep p) rest ++ tail))
+front-apart : (size least : ℕ) (fs : List Pair) (p : Pair) (rest : List Part) (tail : List Part) →
+    AreApart size least (map Keep fs) → LastApart size least (map Keep fs) (Keep p) →
+    AreApart size least (pack_from size least (Keep p) rest ++ tail) →
+    AreApart size least (map Keep fs ++ (pack_from size least (Keep p) rest ++ tail))
 front-apart size least fs p rest tail left border right =
     let first = pack_from-first size least (Keep p) rest in
-    let moved : AreApart size least (first.0 ∷ (first.1 ++ tail)) = subst (λ (xs : List Part). AreApart size least (xs ++ tail)) first.2 right in
+    let moved : AreApart size least (first.0 ∷ (first.1 ++ tail)) =
+    subst (λ (xs : List Part). AreApart size least (xs ++ tail)) first.2 right in
     let near : LastApart size least (map Keep fs) first.0 = elim first.3 [
       | inl same ↦ subst (LastApart size least (map Keep fs)) (sym same) border
       | inr small ↦ last-small size least (map Keep fs) (Keep p) first.0 border small
@@ -170,7 +183,8 @@ front-apart size least fs p rest tail left border right =
 
 -- all parts in the plan of a change
 pub plan-apart : (size least most spare : ℕ) (entries : List Pair) (change : Change) → HaveBytes entries → Packed size least entries →
-    AreApart size least (all_parts entries (plan_packed size entries spare change (pack size least (parts_of size most entries change.at change.removed change.added))))
+    AreApart size least (all_parts entries (plan_packed size entries spare change
+    (pack size least (parts_of size most entries change.at change.removed change.added))))
 plan-apart size least most spare entries change have packed =
     let a = change.at in
     let e = change.at + change.removed in
@@ -183,46 +197,54 @@ plan-apart size least most spare entries change have packed =
     let fs = outer_front a entries in
     let bs = outer_back e entries in
     let old = packed-apart size least entries packed in
-    let behind : AreApart size least (pack size least window ++ map Keep bs) = elim (first_of_list (drop (begun e entries) entries)) [
+    let behind : AreApart size least (pack size least window ++ map Keep bs) = elim (first_of_list (drop (count_begun e entries) entries)) [
       | inl none ↦
-          let all : begun e entries + length after ≡ begun e entries = omega (arith, ap length none.1) in
+          let all : count_begun e entries + length after ≡ count_begun e entries = omega (arith, ap length none.1) in
           let nothing : bs ≡ [] = ap (λ (k : ℕ). drop k entries) all ∙ none.0 in
           subst (λ (xs : List Pair). AreApart size least (pack size least window ++ map Keep xs)) (sym nothing)
           (subst (AreApart size least) (sym (append-nil (pack size least window))) (pack-apart size least window))
       | inr one ↦
           let q = one.0 in
           let pre = map Keep (before ++ left) ++ (made ++ map Keep right) in
-          let whole : entries ≡ take (begun e entries) entries ++ (q ∷ bs) =
-          sym (take-append-drop (begun e entries) entries)
-          ∙ (ap (λ (xs : List Pair). take (begun e entries) entries ++ xs) (sym (outer_back-is e entries))
-          ∙ ap (λ (xs : List Pair). take (begun e entries) entries ++ (xs ++ bs)) one.3) in
-          let parts : AreApart size least (map Keep (take (begun e entries) entries) ++ (Keep q ∷ map Keep bs)) =
-          subst (AreApart size least) (map-append Keep (take (begun e entries) entries) (q ∷ bs)) (subst (λ (xs : List Pair). AreApart size least (map Keep xs)) whole old) in
-          let split = apart-split size least (map Keep (take (begun e entries) entries)) (Keep q) (map Keep bs) parts in
-          let ends_at : map Keep (right ++ after) ≡ map Keep right ++ (Keep q ∷ []) = map-append Keep right after ∙ ap (λ (xs : List Pair). map Keep right ++ map Keep xs) one.3 in
+          let whole : entries ≡ take (count_begun e entries) entries ++ (q ∷ bs) =
+          sym (take-append-drop (count_begun e entries) entries)
+          ∙ (ap (λ (xs : List Pair). take (count_begun e entries) entries ++ xs) (sym (outer_back-is e entries))
+          ∙ ap (λ (xs : List Pair). take (count_begun e entries) entries ++ (xs ++ bs)) one.3) in
+          let parts : AreApart size least (map Keep (take (count_begun e entries) entries) ++ (Keep q ∷ map Keep bs)) =
+          subst (AreApart size least) (map-append Keep (take (count_begun e entries) entries) (q ∷ bs))
+          (subst (λ (xs : List Pair). AreApart size least (map Keep xs)) whole old) in
+          let split = apart-split size least (map Keep (take (count_begun e entries) entries)) (Keep q) (map Keep bs) parts in
+          let ends_at : map Keep (right ++ after) ≡ map Keep right ++ (Keep q ∷ []) = map-append Keep right after
+          ∙ ap (λ (xs : List Pair). map Keep right ++ map Keep xs) one.3 in
           let window_is : window ≡ pre ++ (Keep q ∷ []) =
           ap (λ (xs : List Part). map Keep (before ++ left) ++ (made ++ xs)) ends_at
           ∙ (ap (λ (xs : List Part). map Keep (before ++ left) ++ xs) (sym (append_assoc made (map Keep right) (Keep q ∷ [])))
           ∙ sym (append_assoc (map Keep (before ++ left)) (made ++ map Keep right) (Keep q ∷ []))) in
-          subst (λ (w : List Part). AreApart size least (pack size least w ++ map Keep bs)) (sym window_is) (back-apart size least pre q bs split.right)
+          subst (λ (w : List Part). AreApart size least (pack size least w ++ map Keep bs)) (sym window_is)
+          (back-apart size least pre q bs split.right)
     ] in
-    let whole : AreApart size least (map Keep fs ++ (pack size least window ++ map Keep bs)) = elim (last_of (ended a entries) entries (ended-within_list a entries)) [
+    let whole : AreApart size least (map Keep fs ++ (pack size least window ++ map Keep bs)) =
+    elim (last_of (count_ended a entries) entries (count_ended-within_list a entries)) [
       | inl none ↦
-          let first : ended a entries - length before ≡ 0 = omega (arith, none.0) in
+          let first : count_ended a entries - length before ≡ 0 = omega (arith, none.0) in
           let nothing : fs ≡ [] = ap (λ (k : ℕ). take k entries) first in
           subst (λ (xs : List Pair). AreApart size least (map Keep xs ++ (pack size least window ++ map Keep bs))) (sym nothing) behind
       | inr one ↦
           let p = one.0 in
-          let whole : entries ≡ fs ++ (p ∷ drop (ended a entries) entries) =
-          sym (take-append-drop (ended a entries) entries)
-          ∙ (ap (λ (xs : List Pair). xs ++ drop (ended a entries) entries) (sym (outer_front-is a entries))
-          ∙ (append_assoc fs before (drop (ended a entries) entries) ∙ ap (λ (xs : List Pair). fs ++ (xs ++ drop (ended a entries) entries)) one.2)) in
-          let parts : AreApart size least (map Keep fs ++ (Keep p ∷ map Keep (drop (ended a entries) entries))) =
-          subst (AreApart size least) (map-append Keep fs (p ∷ drop (ended a entries) entries)) (subst (λ (xs : List Pair). AreApart size least (map Keep xs)) whole old) in
-          let split = apart-split size least (map Keep fs) (Keep p) (map Keep (drop (ended a entries) entries)) parts in
+          let whole : entries ≡ fs ++ (p ∷ drop (count_ended a entries) entries) =
+          sym (take-append-drop (count_ended a entries) entries)
+          ∙ (ap (λ (xs : List Pair). xs ++ drop (count_ended a entries) entries) (sym (outer_front-is a entries))
+          ∙ (append_assoc fs before (drop (count_ended a entries) entries)
+          ∙ ap (λ (xs : List Pair). fs ++ (xs ++ drop (count_ended a entries) entries)) one.2)) in
+          let parts : AreApart size least (map Keep fs ++ (Keep p ∷ map Keep (drop (count_ended a entries) entries))) =
+          subst (AreApart size least) (map-append Keep fs (p ∷ drop (count_ended a entries) entries))
+          (subst (λ (xs : List Pair). AreApart size least (map Keep xs)) whole old) in
+          let split = apart-split size least (map Keep fs) (Keep p) (map Keep (drop (count_ended a entries) entries)) parts in
           let rest = map Keep left ++ (made ++ map Keep (right ++ after)) in
-          let window_is : window ≡ Keep p ∷ rest = ap (λ (xs : List Pair). map Keep (xs ++ left) ++ (made ++ map Keep (right ++ after))) one.2 in
-          let moved : AreApart size least (pack_from size least (Keep p) rest ++ map Keep bs) = subst (λ (w : List Part). AreApart size least (pack size least w ++ map Keep bs)) window_is behind in
+          let window_is : window ≡ Keep p ∷ rest =
+          ap (λ (xs : List Pair). map Keep (xs ++ left) ++ (made ++ map Keep (right ++ after))) one.2 in
+          let moved : AreApart size least (pack_from size least (Keep p) rest ++ map Keep bs) =
+          subst (λ (w : List Part). AreApart size least (pack size least w ++ map Keep bs)) window_is behind in
           subst (λ (w : List Part). AreApart size least (map Keep fs ++ (pack size least w ++ map Keep bs))) (sym window_is)
           (front-apart size least fs p rest (map Keep bs) split.left split.border moved)
     ] in

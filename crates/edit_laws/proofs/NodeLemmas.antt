@@ -1,6 +1,8 @@
 -- The pages of the nodes of a changed tree: how many are made doesn't depend on pages, they stand on pages that were
 -- asked for, and the others on those that they had.
-use Rattle.std.proofs.Common.{◌≡◌, ℕ, zero, suc, ◌+◌, ◌-◌, ◌≤◌, true, false, IsTrue, List, [], ◌∷◌, ◌++◌, length, map, take, drop, refl, sym, ap, subst, arith, ◌∙◌, inl, inr, length-append, length-drop, nat_eq}
+use Rattle.std.proofs.Common.{◌≡◌, ℕ, zero, suc, ◌+◌, ◌-◌, ◌≤◌, true, false, IsTrue, List, [], ◌∷◌, ◌++◌, length}
+use Rattle.std.proofs.Common.{map, take, drop, refl, sym, ap, subst, arith, ◌∙◌, inl, inr, length-append}
+use Rattle.std.proofs.Common.{length-drop, nat_eq}
 use Rattle.std.specs.Prelude.{nat_le, if◌then◌else◌}
 use Rattle.std.specs.List.{AllByRecursion, flat_map}
 use Rattle.std.proofs.lemmas.Bool.{cases_Bool, false≢true}
@@ -9,13 +11,16 @@ use Rattle.std.proofs.lemmas.List.Sums.{sum_by-cons}
 use Rattle.geometry_model.specs.Numbers.{Numbers}
 use Rattle.geometry_model.specs.Pages.{is_data_page}
 use Rattle.tree_model.specs.declared.entry.Pair.{Pair}
-use Rattle.layout_model.specs.Levels.{PageNode, NewLevel, Site, pair_of, pairs_of, nodes_at, exchanged, joins, joined, touched, site_of, sizes_of, cut_into, on_pages, level_with, level_after, raised, levels_from, spliced, is_top, nodes_of, unless_empty, count_made}
-use Rattle.layout_laws.proofs.LevelLemmas.{raised-head, levels_from-head}
-use Rattle.layout_laws.proofs.NamingLemmas.{levels_from-top, levels_from-more}
+use Rattle.layout_model.specs.Levels.{PageNode, NewLevel, Site, pair_of, pairs_of_level, nodes_at, exchanged, joins}
+use Rattle.layout_model.specs.Levels.{joined, touched_site, site_of, sizes_of, cut_into, on_pages, level_with}
+use Rattle.layout_model.specs.Levels.{level_after, raised_levels, new_levels_from, spliced, is_top, nodes_of_levels}
+use Rattle.layout_model.specs.Levels.{unless_empty, count_made}
+use Rattle.layout_laws.proofs.LevelLemmas.{raised_levels-head, new_levels_from-head}
+use Rattle.layout_laws.proofs.NamingLemmas.{new_levels_from-top, new_levels_from-more}
 use Rattle.moment_model.specs.Version.{covers, uses, node_run, StandOnData}
 use Rattle.moment_laws.specs.Granting.{page_run}
 use Rattle.moment_laws.proofs.GrantLemmas.{uses-append, covers-cases}
-use Rattle.edit_laws.proofs.ShapeLemmas.{made-length, level_nodes, raised-top, raised-more}
+use Rattle.edit_laws.proofs.ShapeLemmas.{made-length, level_nodes, raised_levels-top, raised_levels-more}
 
 -- ---- how many are made
 
@@ -29,9 +34,9 @@ record Alike (a b : NewLevel) : Type 0 where
 exchanged-alike : (level : List PageNode) (site : Site) (from count : ℕ) (fresh other : List Pair) → length fresh ≡ length other →
     length (exchanged level site from count fresh) ≡ length (exchanged level site from count other)
 exchanged-alike level site from count fresh other same =
-    let skipped = from - length (pairs_of (take site.before level)) in
-    let front = take skipped (pairs_of (nodes_at level site)) in
-    let back = drop (skipped + count) (pairs_of (nodes_at level site)) in
+    let skipped = from - length (pairs_of_level (take site.before level)) in
+    let front = take skipped (pairs_of_level (nodes_at level site)) in
+    let back = drop (skipped + count) (pairs_of_level (nodes_at level site)) in
     let a = length-append front (fresh ++ back) in
     let a2 = length-append fresh back in
     let b = length-append front (other ++ back) in
@@ -41,18 +46,21 @@ exchanged-alike level site from count fresh other same =
 site-alike : (f : ℕ) (level : List PageNode) (from count : ℕ) (fresh other : List Pair) → length fresh ≡ length other →
     site_of f level from count fresh ≡ site_of f level from count other
 site-alike f level from count fresh other same =
-    let at = touched level from count in
+    let at = touched_site level from count in
     ap (λ (k : ℕ). if joins f level at k then joined level at else at) (exchanged-alike level at from count fresh other same)
 
-after-alike : (f : ℕ) (level : List PageNode) (from count : ℕ) (fresh other : List Pair) (pages pages2 : List ℕ) → length fresh ≡ length other →
+after-alike : (f : ℕ) (level : List PageNode) (from count : ℕ) (fresh other : List Pair) (pages pages2 : List ℕ) →
+    length fresh ≡ length other →
     Alike (level_after f level from count fresh pages) (level_after f level from count other pages2)
 after-alike f level from count fresh other pages pages2 same =
     let site = site_of f level from count fresh in
     let J = exchanged level site from count fresh in
     let K = exchanged level site from count other in
     let sized : length J ≡ length K = exchanged-alike level site from count fresh other same in
-    let made : length (on_pages pages (cut_into (sizes_of f (length J)) J)) ≡ length (on_pages pages2 (cut_into (sizes_of f (length K)) K)) =
-    made-length pages (sizes_of f (length J)) J ∙ (ap (λ (k : ℕ). length (sizes_of f k)) sized ∙ sym (made-length pages2 (sizes_of f (length K)) K)) in
+    let made : length (on_pages pages (cut_into (sizes_of f (length J)) J))
+    ≡ length (on_pages pages2 (cut_into (sizes_of f (length K)) K)) =
+    made-length pages (sizes_of f (length J)) J
+    ∙ (ap (λ (k : ℕ). length (sizes_of f k)) sized ∙ sym (made-length pages2 (sizes_of f (length K)) K)) in
     let front = take site.before level in
     let back = drop (site.before + site.nodes) level in
     let m1 = on_pages pages (cut_into (sizes_of f (length J)) J) in
@@ -68,7 +76,8 @@ after-alike f level from count fresh other pages pages2 same =
       many = refl;
     } in
     let P : Site → Type 0 = λ s. Alike (level_with level site m1)
-    (level_with level s (on_pages pages2 (cut_into (sizes_of f (length (exchanged level s from count other))) (exchanged level s from count other)))) in
+    (level_with level s (on_pages pages2 (cut_into (sizes_of f (length (exchanged level s from count other)))
+    (exchanged level s from count other)))) in
     subst P (site-alike f level from count fresh other same) alike
 
 -- how many a list of levels makes
@@ -78,56 +87,68 @@ made-cons level levels = sum_by-cons (λ (l : NewLevel). length l.made) level le
 top-alike : (a b : NewLevel) → Alike a b → is_top a ≡ is_top b
 top-alike a b alike = ap (λ (k : ℕ). nat_le k 1) alike.size
 
-raised-alike : (steps f : ℕ) (a b : NewLevel) (pages pages2 : List ℕ) → Alike a b → count_made (raised steps f a pages) ≡ count_made (raised steps f b pages2)
-raised-alike zero f a b pages pages2 alike =
+raised_levels-alike : (steps f : ℕ) (a b : NewLevel) (pages pages2 : List ℕ) → Alike a b →
+    count_made (raised_levels steps f a pages) ≡ count_made (raised_levels steps f b pages2)
+raised_levels-alike zero f a b pages pages2 alike =
     let x = made-cons a [] in
     let y = made-cons b [] in
     let made = alike.new in
     omega (arith, x, y, made)
-raised-alike (suc steps) f a b pages pages2 alike =
+raised_levels-alike (suc steps) f a b pages pages2 alike =
     let made = alike.new in
     elim (cases_Bool (is_top a)) [
       | inl top ↦
           let x = made-cons a [] in
           let y = made-cons b [] in
-          ap count_made (raised-top steps f a pages top) ∙ (omega (arith, x, y, made) ∙ sym (ap count_made (raised-top steps f b pages2 (sym (top-alike a b alike) ∙ top))))
+          ap count_made (raised_levels-top steps f a pages top)
+          ∙ (omega (arith, x, y, made) ∙ sym (ap count_made
+          (raised_levels-top steps f b pages2 (sym (top-alike a b alike) ∙ top))))
       | inr more ↦
           let left = drop (length a.made) pages in
           let left2 = drop (length b.made) pages2 in
           let next = level_after f [] 0 0 (map pair_of a.nodes) left in
           let next2 = level_after f [] 0 0 (map pair_of b.nodes) left2 in
-          let names : length (map pair_of a.nodes) ≡ length (map pair_of b.nodes) = length-map a.nodes pair_of ∙ (alike.size ∙ sym (length-map b.nodes pair_of)) in
-          let inner = raised-alike steps f next next2 left left2 (after-alike f [] 0 0 (map pair_of a.nodes) (map pair_of b.nodes) left left2 names) in
-          let x = made-cons a (raised steps f next left) in
-          let y = made-cons b (raised steps f next2 left2) in
-          ap count_made (raised-more steps f a pages more)
-          ∙ (omega (arith, x, y, made, inner) ∙ sym (ap count_made (raised-more steps f b pages2 (sym (top-alike a b alike) ∙ more))))
+          let names : length (map pair_of a.nodes) ≡ length (map pair_of b.nodes) = length-map a.nodes pair_of
+          ∙ (alike.size ∙ sym (length-map b.nodes pair_of)) in
+          let inner = raised_levels-alike steps f next next2 left left2 (after-alike f [] 0 0 (map pair_of a.nodes)
+          (map pair_of b.nodes) left left2 names) in
+          let x = made-cons a (raised_levels steps f next left) in
+          let y = made-cons b (raised_levels steps f next2 left2) in
+          ap count_made (raised_levels-more steps f a pages more)
+          ∙ (omega (arith, x, y, made, inner) ∙ sym
+          (ap count_made (raised_levels-more steps f b pages2 (sym (top-alike a b alike) ∙ more))))
     ]
 
-from-alike : (f : ℕ) (a b : NewLevel) (old : List (List PageNode)) (pages pages2 : List ℕ) → Alike a b → count_made (levels_from f a old pages) ≡ count_made (levels_from f b old pages2)
+from-alike : (f : ℕ) (a b : NewLevel) (old : List (List PageNode)) (pages pages2 : List ℕ) → Alike a b →
+    count_made (new_levels_from f a old pages) ≡ count_made (new_levels_from f b old pages2)
 from-alike f a b [] pages pages2 alike =
-    ap (λ (k : ℕ). count_made (raised k f a pages)) alike.size ∙ raised-alike (length b.nodes) f a b pages pages2 alike
+    ap (λ (k : ℕ). count_made (raised_levels k f a pages)) alike.size ∙ raised_levels-alike (length b.nodes) f a b pages pages2 alike
 from-alike f a b (up ∷ old) pages pages2 alike =
     let made = alike.new in
     elim (cases_Bool (is_top a)) [
       | inl top ↦
           let x = made-cons a [] in
           let y = made-cons b [] in
-          ap count_made (levels_from-top f a up old pages top) ∙ (omega (arith, x, y, made) ∙ sym (ap count_made (levels_from-top f b up old pages2 (sym (top-alike a b alike) ∙ top))))
+          ap count_made (new_levels_from-top f a up old pages top)
+          ∙ (omega (arith, x, y, made) ∙ sym (ap count_made
+          (new_levels_from-top f b up old pages2 (sym (top-alike a b alike) ∙ top))))
       | inr more ↦
           let left = drop (length a.made) pages in
           let left2 = drop (length b.made) pages2 in
           let next = level_after f up a.from a.count (map pair_of a.made) left in
           let next2 = level_after f up b.from b.count (map pair_of b.made) left2 in
-          let names : length (map pair_of a.made) ≡ length (map pair_of b.made) = length-map a.made pair_of ∙ (made ∙ sym (length-map b.made pair_of)) in
-          let same : Alike next (level_after f up a.from a.count (map pair_of b.made) left2) = after-alike f up a.from a.count (map pair_of a.made) (map pair_of b.made) left left2 names in
+          let names : length (map pair_of a.made) ≡ length (map pair_of b.made) = length-map a.made pair_of
+          ∙ (made ∙ sym (length-map b.made pair_of)) in
+          let same : Alike next (level_after f up a.from a.count (map pair_of b.made) left2) =
+          after-alike f up a.from a.count (map pair_of a.made) (map pair_of b.made) left left2 names in
           let P : ℕ → ℕ → Type 0 = λ i j. Alike next (level_after f up i j (map pair_of b.made) left2) in
           let nexts : Alike next next2 = subst (λ (j : ℕ). P b.from j) alike.many (subst (λ (i : ℕ). P i a.count) alike.start same) in
           let inner = from-alike f next next2 old left left2 nexts in
-          let x = made-cons a (levels_from f next old left) in
-          let y = made-cons b (levels_from f next2 old left2) in
-          ap count_made (levels_from-more f a up old pages more)
-          ∙ (omega (arith, x, y, made, inner) ∙ sym (ap count_made (levels_from-more f b up old pages2 (sym (top-alike a b alike) ∙ more))))
+          let x = made-cons a (new_levels_from f next old left) in
+          let y = made-cons b (new_levels_from f next2 old left2) in
+          ap count_made (new_levels_from-more f a up old pages more)
+          ∙ (omega (arith, x, y, made, inner) ∙ sym
+          (ap count_made (new_levels_from-more f b up old pages2 (sym (top-alike a b alike) ∙ more))))
     ]
 
 -- the number of made nodes doesn't depend on the pages
@@ -135,9 +156,12 @@ pub made-alike : (f : ℕ) (levels : List (List PageNode)) (from count : ℕ) (f
     count_made (spliced f levels from count fresh pages) ≡ count_made (spliced f levels from count fresh pages2)
 unfolding spliced
 made-alike f [] from count fresh pages pages2 =
-    from-alike f (level_after f [] 0 0 fresh pages) (level_after f [] 0 0 fresh pages2) [] pages pages2 (after-alike f [] 0 0 fresh fresh pages pages2 refl)
+    from-alike f (level_after f [] 0 0 fresh pages)
+    (level_after f [] 0 0 fresh pages2) [] pages pages2 (after-alike f [] 0 0 fresh fresh pages pages2 refl)
 made-alike f (level ∷ old) from count fresh pages pages2 =
-    from-alike f (level_after f level from count fresh pages) (level_after f level from count fresh pages2) old pages pages2 (after-alike f level from count fresh fresh pages pages2 refl)
+    from-alike f (level_after f level from count fresh pages)
+    (level_after f level from count fresh pages2) old pages pages2
+    (after-alike f level from count fresh fresh pages pages2 refl)
 
 -- ---- which pages they use
 
@@ -155,7 +179,8 @@ pages_uses page pages = uses page (map page_run pages)
 pub level_uses-append : (page : ℕ) (xs ys : List PageNode) → level_uses page (xs ++ ys) ≡ level_uses page xs + level_uses page ys
 level_uses-append page xs ys = ap (uses page) (map-append node_run xs ys) ∙ uses-append page (map node_run xs) (map node_run ys)
 
-pub levels_uses-cons : (page : ℕ) (level : List PageNode) (levels : List (List PageNode)) → levels_uses page (level ∷ levels) ≡ level_uses page level + levels_uses page levels
+pub levels_uses-cons : (page : ℕ) (level : List PageNode) (levels : List (List PageNode)) →
+    levels_uses page (level ∷ levels) ≡ level_uses page level + levels_uses page levels
 levels_uses-cons page level levels = uses-append page (map node_run level) (flat_map (map node_run) levels)
 
 -- made nodes stand on the first pages
@@ -170,7 +195,8 @@ made-uses page (first ∷ pages) (part ∷ parts) fits =
     let two = sum_by-cons (covers page) (page_run first) (map page_run pages) in
     omega (arith, more, one, two)
 
-pub parts-length : (f : ℕ) (J : List Pair) (pages : List ℕ) → length (on_pages pages (cut_into (sizes_of f (length J)) J)) ≡ length (cut_into (sizes_of f (length J)) J)
+pub parts-length : (f : ℕ) (J : List Pair) (pages : List ℕ) →
+    length (on_pages pages (cut_into (sizes_of f (length J)) J)) ≡ length (cut_into (sizes_of f (length J)) J)
 parts-length f J pages = go pages (cut_into (sizes_of f (length J)) J)
   where
     go : (pages : List ℕ) (parts : List (List Pair)) → length (on_pages pages parts) ≡ length parts
@@ -179,18 +205,22 @@ parts-length f J pages = go pages (cut_into (sizes_of f (length J)) J)
     go (page ∷ pages) (part ∷ parts) = ap suc (go pages parts)
 
 -- a level keeps the nodes outside its site
-with-uses : (page : ℕ) (level : List PageNode) (site : Site) (made : List PageNode) → level_uses page (level_with level site made).nodes ≤ level_uses page level + level_uses page made
+with-uses : (page : ℕ) (level : List PageNode) (site : Site) (made : List PageNode) →
+    level_uses page (level_with level site made).nodes ≤ level_uses page level + level_uses page made
 with-uses page level site made =
     let front = take site.before level in
     let back = drop (site.before + site.nodes) level in
     let outer = level_uses-append page front (made ++ back) in
     let rest = level_uses-append page made back in
     let all = level_uses-append page front (drop site.before level) in
-    let whole : level_uses page (front ++ drop site.before level) ≡ level_uses page level = ap (level_uses page) (take-append-drop site.before level) in
+    let whole : level_uses page (front ++ drop site.before level) ≡ level_uses page level =
+    ap (level_uses page) (take-append-drop site.before level) in
     let inner = level_uses-append page (take site.nodes (drop site.before level)) (drop site.nodes (drop site.before level)) in
-    let split : level_uses page (take site.nodes (drop site.before level) ++ drop site.nodes (drop site.before level)) ≡ level_uses page (drop site.before level) =
+    let split : level_uses page (take site.nodes (drop site.before level)
+    ++ drop site.nodes (drop site.before level)) ≡ level_uses page (drop site.before level) =
     ap (level_uses page) (take-append-drop site.nodes (drop site.before level)) in
-    let behind : level_uses page (drop site.nodes (drop site.before level)) ≡ level_uses page back = ap (level_uses page) (drop-drop site.nodes site.before level) in
+    let behind : level_uses page (drop site.nodes (drop site.before level)) ≡ level_uses page back =
+    ap (level_uses page) (drop-drop site.nodes site.before level) in
     omega (arith, outer, rest, all, whole, inner, split, behind)
 
 -- a level after an exchange, and the pages that are left
@@ -198,7 +228,8 @@ record OnPages (page : ℕ) (old : ℕ) (below : NewLevel) (pages : List ℕ) : 
   bound : level_uses page below.nodes + pages_uses page (drop (length below.made) pages) ≤ old + pages_uses page pages
 
 after-uses : (page f : ℕ) (level : List PageNode) (from count : ℕ) (fresh : List Pair) (pages : List ℕ) →
-    length (level_after f level from count fresh pages).made ≤ length pages → OnPages page (level_uses page level) (level_after f level from count fresh pages) pages
+    length (level_after f level from count fresh pages).made ≤ length pages →
+    OnPages page (level_uses page level) (level_after f level from count fresh pages) pages
 after-uses page f level from count fresh pages enough =
     let site = site_of f level from count fresh in
     let J = exchanged level site from count fresh in
@@ -207,116 +238,141 @@ after-uses page f level from count fresh pages enough =
     let kept = with-uses page level site made in
     let count_is = parts-length f J pages in
     let new = made-uses page pages parts (omega (arith, count_is, enough)) in
-    let left : uses page (map page_run (drop (length made) pages)) ≡ uses page (map page_run (drop (length parts) pages)) = ap (λ (k : ℕ). uses page (map page_run (drop k pages))) count_is in
+    let left : uses page (map page_run (drop (length made) pages))
+    ≡ uses page (map page_run (drop (length parts) pages)) =
+    ap (λ (k : ℕ). uses page (map page_run (drop k pages))) count_is in
     record { bound = omega (arith, kept, new, left) }
 
-raised-uses : (page steps f : ℕ) (below : NewLevel) (pages : List ℕ) → count_made (raised steps f below pages) ≤ length pages →
-    levels_uses page (level_nodes (raised steps f below pages)) ≤ level_uses page below.nodes + pages_uses page (drop (length below.made) pages)
-raised-uses page zero f below pages enough = let one = levels_uses-cons page below.nodes [] in omega (arith, one)
-raised-uses page (suc steps) f below pages enough =
+raised_levels-uses : (page steps f : ℕ) (below : NewLevel) (pages : List ℕ) →
+    count_made (raised_levels steps f below pages) ≤ length pages →
+    levels_uses page (level_nodes (raised_levels steps f below pages)) ≤ level_uses page below.nodes + pages_uses
+    page (drop (length below.made) pages)
+raised_levels-uses page zero f below pages enough = let one = levels_uses-cons page below.nodes [] in omega (arith, one)
+raised_levels-uses page (suc steps) f below pages enough =
     elim (cases_Bool (is_top below)) [
       | inl top ↦
           let one = levels_uses-cons page below.nodes [] in
-          let same : levels_uses page (level_nodes (raised (suc steps) f below pages)) ≡ levels_uses page (below.nodes ∷ []) = ap (λ (ls : List NewLevel). levels_uses page (level_nodes ls)) (raised-top steps f below pages top) in
+          let same : levels_uses page (level_nodes (raised_levels (suc steps) f below pages))
+          ≡ levels_uses page (below.nodes ∷ []) =
+          ap (λ (ls : List NewLevel). levels_uses page (level_nodes ls))
+          (raised_levels-top steps f below pages top) in
           omega (arith, one, same)
       | inr more ↦
           let left = drop (length below.made) pages in
           let next = level_after f [] 0 0 (map pair_of below.nodes) left in
-          let step = raised-more steps f below pages more in
-          let same : levels_uses page (level_nodes (raised (suc steps) f below pages)) ≡ levels_uses page (below.nodes ∷ level_nodes (raised steps f next left)) = ap (λ (ls : List NewLevel). levels_uses page (level_nodes ls)) step in
-          let count = made-cons below (raised steps f next left) in
-          let counted : count_made (raised (suc steps) f below pages) ≡ count_made (below ∷ raised steps f next left) = ap count_made step in
+          let step = raised_levels-more steps f below pages more in
+          let same : levels_uses page (level_nodes (raised_levels (suc steps) f below pages))
+          ≡ levels_uses page (below.nodes ∷ level_nodes (raised_levels steps f next left)) =
+          ap (λ (ls : List NewLevel). levels_uses page (level_nodes ls)) step in
+          let count = made-cons below (raised_levels steps f next left) in
+          let counted : count_made (raised_levels (suc steps) f below pages)
+          ≡ count_made (below ∷ raised_levels steps f next left) = ap count_made step in
           let left_long = length-drop (length below.made) pages in
-          let fits : count_made (raised steps f next left) ≤ length left = omega (arith, count, counted, left_long, enough) in
-          let first = raised-first steps f next left in
+          let fits : count_made (raised_levels steps f next left) ≤ length left = omega (arith, count, counted, left_long, enough) in
+          let first = raised_levels-first steps f next left in
           let made_fits : length next.made ≤ length left = omega (arith, fits, first) in
           let here = (after-uses page f [] 0 0 (map pair_of below.nodes) left made_fits).bound in
-          let inner = raised-uses page steps f next left fits in
-          let one = levels_uses-cons page below.nodes (level_nodes (raised steps f next left)) in
+          let inner = raised_levels-uses page steps f next left fits in
+          let one = levels_uses-cons page below.nodes (level_nodes (raised_levels steps f next left)) in
           omega (arith, same, here, inner, one)
     ]
   where
-    raised-first : (steps f : ℕ) (below : NewLevel) (pages : List ℕ) → length below.made ≤ count_made (raised steps f below pages)
-    raised-first steps f below pages =
-        let head = raised-head steps f below pages in
-        let same : count_made (raised steps f below pages) ≡ count_made (below ∷ head.0) = ap count_made head.1 in
+    raised_levels-first : (steps f : ℕ) (below : NewLevel) (pages : List ℕ) →
+        length below.made ≤ count_made (raised_levels steps f below pages)
+    raised_levels-first steps f below pages =
+        let head = raised_levels-head steps f below pages in
+        let same : count_made (raised_levels steps f below pages) ≡ count_made (below ∷ head.0) = ap count_made head.1 in
         let count = made-cons below head.0 in
         omega (arith, same, count)
 
 -- the first level's made nodes are among those that all make
-from-first : (f : ℕ) (below : NewLevel) (old : List (List PageNode)) (pages : List ℕ) → length below.made ≤ count_made (levels_from f below old pages)
+from-first : (f : ℕ) (below : NewLevel) (old : List (List PageNode)) (pages : List ℕ) →
+    length below.made ≤ count_made (new_levels_from f below old pages)
 from-first f below old pages =
-    let head = levels_from-head f below old pages in
-    let same : count_made (levels_from f below old pages) ≡ count_made (below ∷ head.0) = ap count_made head.1 in
+    let head = new_levels_from-head f below old pages in
+    let same : count_made (new_levels_from f below old pages) ≡ count_made (below ∷ head.0) = ap count_made head.1 in
     let count = made-cons below head.0 in
     omega (arith, same, count)
 
-from-uses : (page f : ℕ) (below : NewLevel) (old : List (List PageNode)) (pages : List ℕ) → count_made (levels_from f below old pages) ≤ length pages →
-    levels_uses page (level_nodes (levels_from f below old pages)) ≤ level_uses page below.nodes + (levels_uses page old + pages_uses page (drop (length below.made) pages))
+from-uses : (page f : ℕ) (below : NewLevel) (old : List (List PageNode)) (pages : List ℕ) →
+    count_made (new_levels_from f below old pages) ≤ length pages →
+    levels_uses page (level_nodes (new_levels_from f below old pages)) ≤ level_uses page
+    below.nodes + (levels_uses page old + pages_uses page (drop (length below.made) pages))
 from-uses page f below [] pages enough =
-    let all = raised-uses page (length below.nodes) f below pages enough in
+    let all = raised_levels-uses page (length below.nodes) f below pages enough in
     goal all
   where
-    goal : levels_uses page (level_nodes (raised (length below.nodes) f below pages)) ≤ level_uses page below.nodes + pages_uses page (drop (length below.made) pages) →
-        levels_uses page (level_nodes (raised (length below.nodes) f below pages)) ≤ level_uses page below.nodes + (0 + uses page (map page_run (drop (length below.made) pages)))
+    goal : levels_uses page (level_nodes (raised_levels (length below.nodes) f below pages)) ≤ level_uses page
+        below.nodes + pages_uses page (drop (length below.made) pages) →
+        levels_uses page (level_nodes (raised_levels (length below.nodes) f below pages)) ≤ level_uses page
+        below.nodes + (0 + uses page (map page_run (drop (length below.made) pages)))
     goal all = omega (arith, all)
 from-uses page f below (up ∷ old) pages enough =
     let others = levels_uses-cons page up old in
     elim (cases_Bool (is_top below)) [
       | inl top ↦
           let one = levels_uses-cons page below.nodes [] in
-          let same : levels_uses page (level_nodes (levels_from f below (up ∷ old) pages)) ≡ levels_uses page (below.nodes ∷ []) = ap (λ (ls : List NewLevel). levels_uses page (level_nodes ls)) (levels_from-top f below up old pages top) in
+          let same : levels_uses page (level_nodes (new_levels_from f below (up ∷ old) pages))
+          ≡ levels_uses page (below.nodes ∷ []) =
+          ap (λ (ls : List NewLevel). levels_uses page (level_nodes ls))
+          (new_levels_from-top f below up old pages top) in
           omega (arith, one, same)
       | inr more ↦
           let left = drop (length below.made) pages in
           let next = level_after f up below.from below.count (map pair_of below.made) left in
-          let step = levels_from-more f below up old pages more in
-          let same : levels_uses page (level_nodes (levels_from f below (up ∷ old) pages)) ≡ levels_uses page (below.nodes ∷ level_nodes (levels_from f next old left)) = ap (λ (ls : List NewLevel). levels_uses page (level_nodes ls)) step in
-          let count = made-cons below (levels_from f next old left) in
-          let counted : count_made (levels_from f below (up ∷ old) pages) ≡ count_made (below ∷ levels_from f next old left) = ap count_made step in
+          let step = new_levels_from-more f below up old pages more in
+          let same : levels_uses page (level_nodes (new_levels_from f below (up ∷ old) pages))
+          ≡ levels_uses page (below.nodes ∷ level_nodes (new_levels_from f next old left)) =
+          ap (λ (ls : List NewLevel). levels_uses page (level_nodes ls)) step in
+          let count = made-cons below (new_levels_from f next old left) in
+          let counted : count_made (new_levels_from f below (up ∷ old) pages)
+          ≡ count_made (below ∷ new_levels_from f next old left) = ap count_made step in
           let left_long = length-drop (length below.made) pages in
-          let fits : count_made (levels_from f next old left) ≤ length left = omega (arith, count, counted, left_long, enough) in
+          let fits : count_made (new_levels_from f next old left) ≤ length left = omega (arith, count, counted, left_long, enough) in
           let first = from-first f next old left in
           let made_fits : length next.made ≤ length left = omega (arith, fits, first) in
           let here = (after-uses page f up below.from below.count (map pair_of below.made) left made_fits).bound in
           let inner = from-uses page f next old left fits in
-          let one = levels_uses-cons page below.nodes (level_nodes (levels_from f next old left)) in
+          let one = levels_uses-cons page below.nodes (level_nodes (new_levels_from f next old left)) in
           omega (arith, same, here, inner, one, others)
     ]
 
 -- without an empty lowest level no more pages are used
-unless-uses : (page : ℕ) (levels : List NewLevel) → levels_uses page (nodes_of levels) ≤ levels_uses page (level_nodes levels)
+unless-uses : (page : ℕ) (levels : List NewLevel) → levels_uses page (nodes_of_levels levels) ≤ levels_uses page (level_nodes levels)
 unless-uses page [] = let none : 0 ≤ 0 = omega arith in none
 unless-uses page (level ∷ above) =
     elim (cases_Bool (nat_eq (length level.nodes) 0)) [
       | inl none ↦
           let step : unless_empty (level ∷ above) ≡ [] = rw (none, unless_empty) in
-          let same : levels_uses page (nodes_of (level ∷ above)) ≡ 0 = ap (λ (ls : List NewLevel). levels_uses page (level_nodes ls)) step in
+          let same : levels_uses page (nodes_of_levels (level ∷ above)) ≡ 0 =
+          ap (λ (ls : List NewLevel). levels_uses page (level_nodes ls)) step in
           omega (arith, same)
       | inr some ↦
           let step : unless_empty (level ∷ above) ≡ level ∷ above = rw (some, unless_empty) in
-          let same : levels_uses page (nodes_of (level ∷ above)) ≡ levels_uses page (level_nodes (level ∷ above)) = ap (λ (ls : List NewLevel). levels_uses page (level_nodes ls)) step in
+          let same : levels_uses page (nodes_of_levels (level ∷ above))
+          ≡ levels_uses page (level_nodes (level ∷ above)) =
+          ap (λ (ls : List NewLevel). levels_uses page (level_nodes ls)) step in
           omega (arith, same)
     ]
 
 -- the nodes of a changed tree use the pages that were used, and those that were asked for, each once
 pub spliced-uses : (page f : ℕ) (levels : List (List PageNode)) (from count : ℕ) (fresh : List Pair) (pages : List ℕ) →
     count_made (spliced f levels from count fresh pages) ≤ length pages →
-    levels_uses page (nodes_of (spliced f levels from count fresh pages)) ≤ levels_uses page levels + uses page (map page_run pages)
+    levels_uses page (nodes_of_levels (spliced f levels from count fresh pages)) ≤ levels_uses page levels + uses page (map page_run pages)
 unfolding spliced
 spliced-uses page f [] from count fresh pages enough =
     let first = level_after f [] 0 0 fresh pages in
     let head = from-first f first [] pages in
     let here = (after-uses page f [] 0 0 fresh pages (omega (arith, head, enough))).bound in
     let all = from-uses page f first [] pages enough in
-    let less = unless-uses page (levels_from f first [] pages) in
+    let less = unless-uses page (new_levels_from f first [] pages) in
     omega (arith, here, all, less)
 spliced-uses page f (level ∷ old) from count fresh pages enough =
     let first = level_after f level from count fresh pages in
     let head = from-first f first old pages in
     let here = (after-uses page f level from count fresh pages (omega (arith, head, enough))).bound in
     let all = from-uses page f first old pages enough in
-    let less = unless-uses page (levels_from f first old pages) in
+    let less = unless-uses page (new_levels_from f first old pages) in
     let one = levels_uses-cons page level old in
     omega (arith, here, all, less, one)
 
@@ -334,7 +390,8 @@ covers-own node = elim (covers-cases node.page (node_run node)) [
 ]
 
 -- where nodes stand on data pages no other page is used
-data-unused : (n : Numbers) (page : ℕ) (levels : List (List PageNode)) → StandOnData n levels → is_data_page n page ≡ false → levels_uses page levels ≡ 0
+data-unused : (n : Numbers) (page : ℕ) (levels : List (List PageNode)) → StandOnData n levels →
+    is_data_page n page ≡ false → levels_uses page levels ≡ 0
 data-unused n page [] stand other = refl
 data-unused n page (level ∷ levels) stand other =
     let here = go level stand.0 in
@@ -357,14 +414,17 @@ data-unused n page (level ∷ levels) stand other =
         ]
 
 -- and nodes that use no other page stand on data pages
-data-stand : (n : Numbers) (levels : List (List PageNode)) → ((page : ℕ) → is_data_page n page ≡ false → levels_uses page levels ≡ 0) → StandOnData n levels
+data-stand : (n : Numbers) (levels : List (List PageNode)) →
+    ((page : ℕ) → is_data_page n page ≡ false → levels_uses page levels ≡ 0) → StandOnData n levels
 data-stand n [] none = tt
 data-stand n (level ∷ levels) none = (
   go level (λ page other. let one = levels_uses-cons page level levels in let zero_all = none page other in omega (arith, one, zero_all)),
-  data-stand n levels (λ page other. let one = levels_uses-cons page level levels in let zero_all = none page other in omega (arith, one, zero_all)),
+  data-stand n levels (λ page other. let one = levels_uses-cons page level levels in
+      let zero_all = none page other in omega (arith, one, zero_all)),
 )
   where
-    go : (level : List PageNode) → ((page : ℕ) → is_data_page n page ≡ false → level_uses page level ≡ 0) → AllByRecursion (λ (node : PageNode). IsTrue (is_data_page n node.page)) level
+    go : (level : List PageNode) → ((page : ℕ) → is_data_page n page ≡ false → level_uses page level ≡ 0) →
+        AllByRecursion (λ (node : PageNode). IsTrue (is_data_page n node.page)) level
     go [] none = tt
     go (node ∷ rest) none = (
       elim (cases_Bool (is_data_page n node.page)) [
@@ -375,15 +435,18 @@ data-stand n (level ∷ levels) none = (
             let first = sum_by-cons (covers node.page) (node_run node) (map node_run rest) in
             absurd (omega (arith, zero_all, own, first))
       ],
-      go rest (λ page other. let zero_all = none page other in let first = sum_by-cons (covers page) (node_run node) (map node_run rest) in omega (arith, zero_all, first)),
+      go rest (λ page other. let zero_all = none page other in
+          let first = sum_by-cons (covers page) (node_run node) (map node_run rest) in
+          omega (arith, zero_all, first)),
     )
 
 -- the nodes of a changed tree stand on data pages, where the old ones and the pages do
 pub spliced-data : (n : Numbers) (f : ℕ) (levels : List (List PageNode)) (from count : ℕ) (fresh : List Pair) (pages : List ℕ) →
     count_made (spliced f levels from count fresh pages) ≤ length pages → StandOnData n levels →
-    ((page : ℕ) → is_data_page n page ≡ false → uses page (map page_run pages) ≡ 0) → StandOnData n (nodes_of (spliced f levels from count fresh pages))
+    ((page : ℕ) → is_data_page n page ≡ false → uses page (map page_run pages) ≡ 0) →
+    StandOnData n (nodes_of_levels (spliced f levels from count fresh pages))
 spliced-data n f levels from count fresh pages enough stand others =
-    data-stand n (nodes_of (spliced f levels from count fresh pages)) (λ page other.
+    data-stand n (nodes_of_levels (spliced f levels from count fresh pages)) (λ page other.
     let bound = spliced-uses page f levels from count fresh pages enough in
     let old = data-unused n page levels stand other in
     let new = others page other in

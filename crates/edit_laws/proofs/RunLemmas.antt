@@ -1,5 +1,7 @@
 -- The runs that the parts of a change were granted, and the segments on them.
-use Rattle.std.proofs.Common.{◌≡◌, ℕ, zero, suc, ◌+◌, ◌-◌, ◌*◌, ◌<◌, ◌≤◌, min, Bool, true, false, ◌&&◌, Some, None, List, [], ◌∷◌, ◌++◌, length, map, refl, sym, ap, subst, arith, ◌∙◌, ◌⊎◌, inl, inr, nat_eq, nat_lt}
+use Rattle.std.proofs.Common.{◌≡◌, ℕ, zero, suc, ◌+◌, ◌-◌, ◌*◌, ◌<◌, ◌≤◌, min, Bool, true, false, ◌&&◌, Some, None}
+use Rattle.std.proofs.Common.{List, [], ◌∷◌, ◌++◌, length, map, refl, sym, ap, subst, arith, ◌∙◌, ◌⊎◌, inl, inr}
+use Rattle.std.proofs.Common.{nat_eq, nat_lt}
 use Rattle.std.specs.Prelude.{if◌then◌else◌}
 use Rattle.std.specs.List.{AllByRecursion}
 use Rattle.std.proofs.lemmas.Bool.{cases_Bool, cases_lt, lt-ltb, eqb-false, le-ltb, and_right}
@@ -16,7 +18,7 @@ use Rattle.layout_model.specs.declared.part.Part.TheVariants.{Keep, Make}
 use Rattle.layout_model.specs.declared.request.Request.{Request}
 use Rattle.layout_model.specs.Parts.{part_bytes}
 use Rattle.layout_model.specs.Pack.{is_small}
-use Rattle.layout_model.specs.Plan.{past, ask_of, made_bytes}
+use Rattle.layout_model.specs.Plan.{past, ask_of, made_part_bytes}
 use Rattle.layout_model.specs.Grants.{Spaces, Answer, and_then, or_else, run_of, only, halved, part_runs, all_runs, node_pages}
 use Rattle.layout_model.specs.Grants.Answer.{Got, Refused}
 use Rattle.layout_model.specs.Layout.{requests, segments_on, laid_parts, left_over, spare_behind}
@@ -24,18 +26,20 @@ use Rattle.layout_laws.specs.Halving.{runs_pages, AreLong, AreHalves}
 use Rattle.layout_laws.specs.Merging.{AreApart}
 use Rattle.layout_laws.proofs.HalvingLemmas.{halved-halves, alone_cases, no_grant, got_same}
 use Rattle.layout_laws.proofs.MergingLemmas.{apart-large}
-use Rattle.content_laws.proofs.PageCountLemmas.{count-behind, count-enough, count-min, count-none, count-some}
+use Rattle.tree_model.proofs.PageCountLaws.{count-behind, count-enough, count-min, count-none, count-some}
 use Rattle.moment_model.specs.Version.{covers, uses, segment_run, spare_uses}
 use Rattle.moment_laws.specs.Granting.{LiesInSpace, runs_of_parts}
 use Rattle.moment_laws.proofs.GrantLemmas.{uses-append}
-use Rattle.edit_laws.proofs.ShapeLemmas.{all-join}
-use Rattle.edit_laws.proofs.PartLemmas.{GoodPart, keeps, segments_uses, segments_uses-cons, segments_uses-append, covers-two, covers-front, all-left, all-right}
+use Rattle.base_laws.proofs.ListLaws.{all-append}
+use Rattle.edit_laws.proofs.PartLemmas.{GoodPart, keeps, segments_uses, segments_uses-cons, segments_uses-append}
+use Rattle.edit_laws.proofs.PartLemmas.{covers-two, covers-front, all-left, all-right}
 use Rattle.edit_laws.proofs.NeighbourLemmas.{both, FirstApart, apart-cons, apart-first, apart-rest}
 
 -- ---- answers
 
 -- what a chain got
-pub and_then-got : {A B : Type 0} (answer : Answer A) (next : A → Spaces → Answer B) (value : B) (left : Spaces) → and_then answer next ≡ Got value left →
+pub and_then-got : {A B : Type 0} (answer : Answer A) (next : A → Spaces → Answer B) (value : B) (left : Spaces) →
+    and_then answer next ≡ Got value left →
     (first : A) × (mid : Spaces) × (answer ≡ Got first mid) × (next first mid ≡ Got value left)
 and_then-got (Got first mid) next value left got = (first, mid, refl, got)
 and_then-got (Refused pages) next value left got = absurd (no_grant pages value left got)
@@ -47,13 +51,16 @@ or_else-got (Refused pages) other value left got = inr (pages, got)
 
 -- ---- runs for a part
 
--- the runs of a part of so many bytes: one that has their pages, or several of the threshold's pages each, with just their pages
+-- the runs of a part of so many bytes: one that has their pages, or several of the threshold's pages each, with just
+-- their pages
 abbrev pub HoldsPart : ℕ → ℕ → ℕ → List Extent → Type 0
 HoldsPart size least bytes runs =
-    ((run : Extent) × (runs ≡ run ∷ []) × (page_count size bytes ≤ run.pages)) ⊎ ((least ≤ page_count size bytes) × AreHalves least (page_count size bytes) runs)
+    ((run : Extent) × (runs ≡ run ∷ []) × (page_count size bytes ≤ run.pages))
+    ⊎ ((least ≤ page_count size bytes) × AreHalves least (page_count size bytes) runs)
 
 -- so many pages as one run
-alone-got : (n : Numbers) (start pages : ℕ) (spaces left : Spaces) (runs : List Extent) → and_then (run_of n start pages spaces) only ≡ Got runs left →
+alone-got : (n : Numbers) (start pages : ℕ) (spaces left : Spaces) (runs : List Extent) →
+    and_then (run_of n start pages spaces) only ≡ Got runs left →
     (run : Extent) × (runs ≡ run ∷ []) × (run.pages ≡ pages)
 alone-got n start pages spaces left runs got =
     elim (alone_cases n start pages spaces) [
@@ -79,7 +86,8 @@ halved-few (suc steps) n start least pages spaces left runs few got =
     ]
 
 pub part-got : (n : Numbers) (start least want bytes : ℕ) (spaces left : Spaces) (runs : List Extent) → page_count n.page bytes ≤ want →
-    part_runs n start least (record { want = want; need = page_count n.page bytes }) spaces ≡ Got runs left → HoldsPart n.page least bytes runs
+    part_runs n start least (record { want = want; need = page_count n.page bytes }) spaces ≡ Got runs left →
+    HoldsPart n.page least bytes runs
 part-got n start least want bytes spaces left runs enough got =
     let need = page_count n.page bytes in
     elim (or_else-got (and_then (run_of n start want spaces) only) (λ refused. halved need n start least need spaces) runs left got) [
@@ -99,7 +107,8 @@ part-got n start least want bytes spaces left runs enough got =
 
 -- where no more is wished than is needed the runs have just the pages
 pub exact-got : (n : Numbers) (start least bytes : ℕ) (spaces left : Spaces) (runs : List Extent) →
-    part_runs n start least (record { want = page_count n.page bytes; need = page_count n.page bytes }) spaces ≡ Got runs left → runs_pages runs ≡ page_count n.page bytes
+    part_runs n start least (record { want = page_count n.page bytes; need = page_count n.page bytes }) spaces
+    ≡ Got runs left → runs_pages runs ≡ page_count n.page bytes
 exact-got n start least bytes spaces left runs got =
     let need = page_count n.page bytes in
     let single : (run : Extent) → runs ≡ run ∷ [] → run.pages ≡ need → runs_pages runs ≡ need = λ run is pages.
@@ -109,7 +118,10 @@ exact-got n start least bytes spaces left runs got =
       | inl first ↦ let one = alone-got n start need spaces left runs first in single one.0 one.1 one.2
       | inr second ↦
           elim (cases_lt need least) [
-            | inl few ↦ let one = halved-few need n start least need spaces left runs (omega (arith, few)) second.1 in single one.0 one.1 one.2
+            | inl few ↦ let one = halved-few need n start least need spaces left runs (omega (
+              arith,
+              few,
+            )) second.1 in single one.0 one.1 one.2
             | inr many ↦ (halved-halves need n start least need spaces left runs many second.1).together
           ]
     ]
@@ -124,7 +136,8 @@ pub want-enough : (b : Bool) (need last limit : ℕ) → need ≤ (if b then ask
 want-enough true need last limit = omega arith
 want-enough false need last limit = omega arith
 
-pub all_runs-hold : (n : Numbers) (start least : ℕ) (appends : Bool) (last limit : ℕ) (ns : List ℕ) (spaces left : Spaces) (runs : List (List Extent)) →
+pub all_runs-hold : (n : Numbers) (start least : ℕ) (appends : Bool) (last limit : ℕ) (ns : List ℕ)
+    (spaces left : Spaces) (runs : List (List Extent)) →
     all_runs n start least (requests appends last limit (map (page_count n.page) ns)) spaces ≡ Got runs left → AllHold n.page least ns runs
 all_runs-hold n start least appends last limit [] spaces left runs got = tt
 all_runs-hold n start least appends last limit (bytes ∷ []) spaces left runs got =
@@ -148,20 +161,25 @@ all_runs-hold n start least appends last limit (bytes ∷ next ∷ ns) spaces le
     (λ one mid. and_then (all_runs n start least others mid) (λ more rest. Got (one ∷ more) rest)) runs left got in
     let second = and_then-got (all_runs n start least others first.1) (λ more rest. Got (first.0 ∷ more) rest) runs left first.3 in
     let shape : first.0 ∷ second.0 ≡ runs = got_all (first.0 ∷ second.0) runs second.1 left second.3 in
-    subst (AllHold n.page least (bytes ∷ next ∷ ns)) shape
-    (part-got n start least need bytes spaces first.1 first.0 (omega arith) first.2, all_runs-hold n start least appends last limit (next ∷ ns) first.1 second.1 second.0 second.2)
+    subst (AllHold n.page least (bytes ∷ next ∷ ns)) shape (
+      part-got n start least need bytes spaces first.1 first.0 (omega arith) first.2,
+      all_runs-hold n start least appends last limit (next ∷ ns) first.1 second.1 second.0 second.2,
+    )
   where
     got_all : (x y : List (List Extent)) (left rest : Spaces) → Got x left ≡ Got y rest → x ≡ y
     got_all x y left rest same = cc
 
 -- as many node pages as were asked for
-pub node_pages-count : (n : Numbers) (start count : ℕ) (spaces left : Spaces) (pages : List ℕ) → node_pages n start count spaces ≡ Got pages left → length pages ≡ count
+pub node_pages-count : (n : Numbers) (start count : ℕ) (spaces left : Spaces) (pages : List ℕ) →
+    node_pages n start count spaces ≡ Got pages left → length pages ≡ count
 node_pages-count n start zero spaces left pages got = sym (ap length (got_all [] pages spaces left got))
   where
     got_all : (x y : List ℕ) (left rest : Spaces) → Got x left ≡ Got y rest → x ≡ y
     got_all x y left rest same = cc
 node_pages-count n start (suc count) spaces left pages got =
-    let first = and_then-got (run_of n start 1 spaces) (λ run mid. and_then (node_pages n start count mid) (λ more rest. Got (run.page ∷ more) rest)) pages left got in
+    let first = and_then-got (run_of n start 1 spaces)
+    (λ run mid. and_then (node_pages n start count mid)
+    (λ more rest. Got (run.page ∷ more) rest)) pages left got in
     let second = and_then-got (node_pages n start count first.1) (λ more rest. Got (first.0.page ∷ more) rest) pages left first.3 in
     let shape : first.0.page ∷ second.0 ≡ pages = got_all (first.0.page ∷ second.0) pages second.1 left second.3 in
     let more = node_pages-count n start count first.1 second.1 second.0 second.2 in
@@ -178,7 +196,8 @@ count-minus size bytes pages some =
     elim (cases_lt bytes (pages * size)) [
       | inr within ↦
           let split : bytes ≡ pages * size + (bytes - pages * size) = omega (arith, within) in
-          let count : page_count size bytes ≡ pages + page_count size (bytes - pages * size) = ap (page_count size) split ∙ count-behind size pages (bytes - pages * size) some in
+          let count : page_count size bytes ≡ pages + page_count size (bytes - pages * size) =
+          ap (page_count size) split ∙ count-behind size pages (bytes - pages * size) some in
           omega (arith, count)
       | inl past_all ↦
           let nothing : bytes - pages * size ≡ 0 = omega (arith, past_all) in
@@ -188,12 +207,15 @@ count-minus size bytes pages some =
     ]
 
 -- a segment on the first pages of a run
-on_run-uses : (page size bytes : ℕ) (run : Extent) → 0 < size → covers page (segment_run size (record { bytes = min bytes (run.pages * size); page = run.page })) ≤ covers page run
+on_run-uses : (page size bytes : ℕ) (run : Extent) → 0 < size →
+    covers page (segment_run size (record { bytes = min bytes (run.pages * size); page = run.page })) ≤ covers page
+    run
 on_run-uses page size bytes run some =
     let count = count-min size bytes run.pages some in
     covers-front page run.page run.pages (page_count size (min bytes (run.pages * size))) (omega (arith, count))
 
-pub segments_on-uses : (page size bytes : ℕ) (runs : List Extent) → 0 < size → segments_uses page size (segments_on size bytes runs) ≤ uses page runs
+pub segments_on-uses : (page size bytes : ℕ) (runs : List Extent) → 0 < size →
+    segments_uses page size (segments_on size bytes runs) ≤ uses page runs
 segments_on-uses page size bytes [] some = omega arith
 segments_on-uses page size bytes (run ∷ rest) some =
     let seg : Pair = record { bytes = min bytes (run.pages * size); page = run.page } in
@@ -229,7 +251,8 @@ on_run-segment n bytes run some byte any lies =
       );
     }
 
-halves-segments : (n : Numbers) (least bytes : ℕ) (runs : List Extent) → 0 < n.page → 1 ≤ least → runs_pages runs ≡ page_count n.page bytes → AreLong least runs →
+halves-segments : (n : Numbers) (least bytes : ℕ) (runs : List Extent) → 0 < n.page → 1 ≤ least →
+    runs_pages runs ≡ page_count n.page bytes → AreLong least runs →
     AllByRecursion (LiesInSpace n) runs → AllByRecursion (IsSegment n) (segments_on n.page bytes runs)
 halves-segments n least bytes [] some one pages long lie = tt
 halves-segments n least bytes (run ∷ rest) some one pages long lie =
@@ -242,12 +265,20 @@ halves-segments n least bytes (run ∷ rest) some one pages long lie =
           let no_page : page_count n.page bytes ≡ 0 = ap (page_count n.page) nothing ∙ count-none n.page some in
           absurd (omega (arith, no_page, pages, any))
     ] in
-    let left = count-minus n.page bytes run.pages some in
-    (on_run-segment n bytes run some byte any lie.0, halves-segments n least (bytes - run.pages * n.page) rest some one (omega (arith, left, pages)) long.1 lie.1)
+    let left = count-minus n.page bytes run.pages some in (
+      on_run-segment n bytes run some byte any lie.0,
+      halves-segments n least (bytes - run.pages * n.page) rest some one (omega (
+        arith,
+        left,
+        pages,
+      )) long.1 lie.1,
+    )
 
-pub part-segments : (n : Numbers) (least bytes : ℕ) (runs : List Extent) → 0 < n.page → 1 ≤ least → 1 ≤ bytes → HoldsPart n.page least bytes runs →
+pub part-segments : (n : Numbers) (least bytes : ℕ) (runs : List Extent) → 0 < n.page → 1 ≤ least → 1 ≤ bytes →
+    HoldsPart n.page least bytes runs →
     AllByRecursion (LiesInSpace n) runs → AllByRecursion (IsSegment n) (segments_on n.page bytes runs)
-part-segments n least bytes runs some one byte (inr halves) lie = halves-segments n least bytes runs some one halves.1.together halves.1.long lie
+part-segments n least bytes runs some one byte (inr halves) lie =
+    halves-segments n least bytes runs some one halves.1.together halves.1.long lie
 part-segments n least bytes runs some one byte (inl single) lie =
     let lie_one : AllByRecursion (LiesInSpace n) (single.0 ∷ []) = subst (AllByRecursion (LiesInSpace n)) single.1 lie in
     let any = count-some n.page bytes some (omega (arith, byte)) in
@@ -272,7 +303,8 @@ halves-large size least bytes (run ∷ rest) some pages long =
       halves-large size least (bytes - run.pages * size) rest some (omega (arith, left, pages)) long.1,
     )
 
-part-stands : (size least bytes : ℕ) (runs : List Extent) → 0 < size → 1 ≤ bytes → HoldsPart size least bytes runs → StandFor size least bytes (segments_on size bytes runs)
+part-stands : (size least bytes : ℕ) (runs : List Extent) → 0 < size → 1 ≤ bytes → HoldsPart size least bytes runs →
+    StandFor size least bytes (segments_on size bytes runs)
 part-stands size least bytes runs some byte (inl single) =
     let count = count-min size bytes single.0.pages some in
     let fits = single.2 in
@@ -295,17 +327,20 @@ Matched size least (Keep p ∷ rest) runs = Matched size least rest runs
 Matched size least (Make bytes ∷ rest) [] = ⊥
 Matched size least (Make bytes ∷ rest) (run ∷ runs) = HoldsPart size least bytes run × Matched size least rest runs
 
-pub matched-from : (size least : ℕ) (parts : List Part) (runs : List (List Extent)) → AllHold size least (made_bytes parts) runs → Matched size least parts runs
+pub matched-from : (size least : ℕ) (parts : List Part) (runs : List (List Extent)) →
+    AllHold size least (made_part_bytes parts) runs → Matched size least parts runs
 matched-from size least [] runs all = tt
 matched-from size least (Keep p ∷ rest) runs all = matched-from size least rest runs all
 matched-from size least (Make bytes ∷ rest) [] all = absurd all
 matched-from size least (Make bytes ∷ rest) (run ∷ runs) all = (all.0, matched-from size least rest runs all.1)
 
-pub matched-front : (size least : ℕ) (xs : List Pair) (parts : List Part) (runs : List (List Extent)) → Matched size least parts runs → Matched size least (map Keep xs ++ parts) runs
+pub matched-front : (size least : ℕ) (xs : List Pair) (parts : List Part) (runs : List (List Extent)) →
+    Matched size least parts runs → Matched size least (map Keep xs ++ parts) runs
 matched-front size least [] parts runs all = all
 matched-front size least (x ∷ xs) parts runs all = matched-front size least xs parts runs all
 
-pub matched-back : (size least : ℕ) (parts : List Part) (xs : List Pair) (runs : List (List Extent)) → Matched size least parts runs → Matched size least (parts ++ map Keep xs) runs
+pub matched-back : (size least : ℕ) (parts : List Part) (xs : List Pair) (runs : List (List Extent)) →
+    Matched size least parts runs → Matched size least (parts ++ map Keep xs) runs
 matched-back size least [] xs runs all = none xs
   where
     none : (xs : List Pair) → Matched size least (map Keep xs) runs
@@ -316,13 +351,15 @@ matched-back size least (Make bytes ∷ rest) xs [] all = absurd all
 matched-back size least (Make bytes ∷ rest) xs (run ∷ runs) all = (all.0, matched-back size least rest xs runs all.1)
 
 -- what is laid out are segments of the store
-pub laid-segments : (n : Numbers) (least : ℕ) (parts : List Part) (runs : List (List Extent)) → 0 < n.page → 1 ≤ least → AllByRecursion (GoodPart n) parts →
-    Matched n.page least parts runs → AllByRecursion (LiesInSpace n) (runs_of_parts runs) → AllByRecursion (IsSegment n) (laid_parts n.page parts runs)
+pub laid-segments : (n : Numbers) (least : ℕ) (parts : List Part) (runs : List (List Extent)) → 0 < n.page →
+    1 ≤ least → AllByRecursion (GoodPart n) parts →
+    Matched n.page least parts runs → AllByRecursion (LiesInSpace n) (runs_of_parts runs) →
+    AllByRecursion (IsSegment n) (laid_parts n.page parts runs)
 laid-segments n least [] runs some one good matched lie = tt
 laid-segments n least (Keep p ∷ rest) runs some one good matched lie = (good.0, laid-segments n least rest runs some one good.1 matched lie)
 laid-segments n least (Make bytes ∷ rest) [] some one good matched lie = absurd matched
 laid-segments n least (Make bytes ∷ rest) (run ∷ runs) some one good matched lie =
-    all-join (IsSegment n) (segments_on n.page bytes run) (laid_parts n.page rest runs)
+    all-append (IsSegment n) (segments_on n.page bytes run) (laid_parts n.page rest runs)
     (part-segments n least bytes run some one good.0.0 matched.0 (all-left (LiesInSpace n) run (runs_of_parts runs) lie))
     (laid-segments n least rest runs some one good.1 matched.1 (all-right (LiesInSpace n) run (runs_of_parts runs) lie))
 
@@ -344,7 +381,12 @@ laid-uses page size (Make bytes ∷ rest) (run ∷ runs) some =
     omega (arith, one, two, first, more)
 
 -- an extent of pages behind the first ones of a run
-pub past-uses : (page : ℕ) (run : Extent) (few : ℕ) → spare_uses page (past few (Some run)) + covers page (record { page = run.page; pages = min few run.pages }) ≤ covers page run
+pub past-uses : (page : ℕ) (run : Extent) (few : ℕ) →
+    spare_uses page (past few (Some run)) + covers page (record {
+      page = run.page;
+      pages =
+          min few run.pages;
+    }) ≤ covers page run
 past-uses page run few =
     elim (cases_Bool (nat_eq (run.pages - few) 0)) [
       | inl none ↦
@@ -359,14 +401,17 @@ past-uses page run few =
             | inl more ↦ absurd (any (omega (arith, more)))
             | inr within ↦ within
           ] in
-          let same : spare_uses page (past few (Some run)) ≡ covers page (record { page = run.page + few; pages = run.pages - few }) = ap (spare_uses page) step in
-          let both_parts = covers-two page run.page run.pages (min few run.pages) few (run.pages - few) (omega arith) (omega (arith, less)) in
+          let same : spare_uses page (past few (Some run))
+          ≡ covers page (record { page = run.page + few; pages = run.pages - few }) =
+          ap (spare_uses page) step in
+          let both_parts = covers-two page run.page run.pages (min few run.pages) few (run.pages - few)
+          (omega arith) (omega (arith, less)) in
           omega (arith, same, both_parts)
     ]
 
 -- with what is left of the last run
 pub laid-spare : (page size : ℕ) (parts : List Part) (runs : List (List Extent)) → 0 < size →
-    segments_uses page size (laid_parts size parts runs) + spare_uses page (spare_behind size (made_bytes parts) runs)
+    segments_uses page size (laid_parts size parts runs) + spare_uses page (spare_behind size (made_part_bytes parts) runs)
     ≤ segments_uses page size (keeps parts) + uses page (runs_of_parts runs)
 laid-spare page size [] runs some = let none = go runs in omega (arith, none)
   where
@@ -379,7 +424,7 @@ laid-spare page size (Keep p ∷ rest) runs some =
     let more = laid-spare page size rest runs some in
     omega (arith, one, two, more)
 laid-spare page size (Make bytes ∷ rest) [] some =
-    let none = go (made_bytes rest) in
+    let none = go (made_part_bytes rest) in
     let more = laid-uses page size rest [] some in
     omega (arith, none, more)
   where
@@ -390,22 +435,28 @@ laid-spare page size (Make bytes ∷ rest) (run ∷ runs) some =
     let one = segments_uses-append page size (segments_on size bytes run) (laid_parts size rest runs) in
     let two = uses-append page run (runs_of_parts runs) in
     let first = segments_on-uses page size bytes run some in
-    go (made_bytes rest) refl runs (λ rs. laid-spare page size rest rs some) one two first
+    go (made_part_bytes rest) refl runs (λ rs. laid-spare page size rest rs some) one two first
   where
-    go : (ns : List ℕ) → made_bytes rest ≡ ns → (runs : List (List Extent)) →
-        ((rs : List (List Extent)) → segments_uses page size (laid_parts size rest rs) + spare_uses page (spare_behind size (made_bytes rest) rs)
+    go : (ns : List ℕ) → made_part_bytes rest ≡ ns → (runs : List (List Extent)) →
+        ((rs : List (List Extent)) → segments_uses page size (laid_parts size rest rs) + spare_uses page
+        (spare_behind size (made_part_bytes rest) rs)
         ≤ segments_uses page size (keeps rest) + uses page (runs_of_parts rs)) →
-        segments_uses page size (segments_on size bytes run ++ laid_parts size rest runs) ≡ segments_uses page size (segments_on size bytes run) + segments_uses page size (laid_parts size rest runs) →
+        segments_uses page size (segments_on size bytes run ++ laid_parts size rest runs)
+        ≡ segments_uses page size (segments_on size bytes run) + segments_uses page size
+        (laid_parts size rest runs) →
         uses page (run ++ runs_of_parts runs) ≡ uses page run + uses page (runs_of_parts runs) →
         segments_uses page size (segments_on size bytes run) ≤ uses page run →
-        segments_uses page size (segments_on size bytes run ++ laid_parts size rest runs) + spare_uses page (spare_behind size (bytes ∷ ns) (run ∷ runs))
+        segments_uses page size (segments_on size bytes run
+        ++ laid_parts size rest runs) + spare_uses page (spare_behind size (bytes ∷ ns) (run ∷ runs))
         ≤ segments_uses page size (keeps rest) + uses page (run ++ runs_of_parts runs)
     go [] same [] inner one two first =
         let last = last-run bytes run in
         let more = laid-uses page size rest [] some in
         omega (arith, one, two, last, more)
       where
-        last-run : (bytes : ℕ) (run : List Extent) → segments_uses page size (segments_on size bytes run) + spare_uses page (left_over (page_count size bytes) run) ≤ uses page run
+        last-run : (bytes : ℕ) (run : List Extent) →
+            segments_uses page size (segments_on size bytes run) + spare_uses page
+            (left_over (page_count size bytes) run) ≤ uses page run
         last-run bytes [] = omega arith
         last-run bytes (r ∷ r2 ∷ rs) = let all = segments_on-uses page size bytes (r ∷ r2 ∷ rs) some in omega (arith, all)
         last-run bytes (r ∷ []) =
@@ -413,7 +464,9 @@ laid-spare page size (Make bytes ∷ rest) (run ∷ runs) some =
             let count = count-min size bytes r.pages some in
             let one = segments_uses-cons page size seg [] in
             let rest = past-uses page r (page_count size bytes) in
-            let same : covers page (segment_run size seg) ≡ covers page (record { page = r.page; pages = min (page_count size bytes) r.pages }) = ap (λ (k : ℕ). covers page (record { page = r.page; pages = k })) count in
+            let same : covers page (segment_run size seg)
+            ≡ covers page (record { page = r.page; pages = min (page_count size bytes) r.pages }) =
+            ap (λ (k : ℕ). covers page (record { page = r.page; pages = k })) count in
             let two = sum_by-cons (covers page) r [] in
             omega (arith, one, rest, same, two)
     go [] same (run2 ∷ runs) inner one two first =
@@ -421,50 +474,63 @@ laid-spare page size (Make bytes ∷ rest) (run ∷ runs) some =
         omega (arith, one, two, first, more)
     go (k ∷ ns) same runs inner one two first =
         let more = inner runs in
-        let moved : spare_uses page (spare_behind size (made_bytes rest) runs) ≡ spare_uses page (spare_behind size (k ∷ ns) runs) = ap (λ (ms : List ℕ). spare_uses page (spare_behind size ms runs)) same in
+        let moved : spare_uses page (spare_behind size (made_part_bytes rest) runs)
+        ≡ spare_uses page (spare_behind size (k ∷ ns) runs) =
+        ap (λ (ms : List ℕ). spare_uses page (spare_behind size ms runs)) same in
         omega (arith, one, two, first, more, moved)
 
 -- ---- neighbours among what is laid out
 
 -- all large
-large-apart : (size least : ℕ) (segs : List Pair) (rest : List Part) → AllByRecursion (λ (seg : Pair). is_small size least (Keep seg) ≡ false) segs → AreApart size least rest →
+large-apart : (size least : ℕ) (segs : List Pair) (rest : List Part) →
+    AllByRecursion (λ (seg : Pair). is_small size least (Keep seg) ≡ false) segs → AreApart size least rest →
     AreApart size least (map Keep segs ++ rest)
 large-apart size least [] rest large apart = apart
-large-apart size least (seg ∷ segs) rest large apart = apart-large size least (Keep seg) (map Keep segs ++ rest) large.0 (large-apart size least segs rest large.1 apart)
+large-apart size least (seg ∷ segs) rest large apart =
+    apart-large size least (Keep seg) (map Keep segs
+    ++ rest) large.0 (large-apart size least segs rest large.1 apart)
 
 -- segments stand beside what their part stands beside
-stand-first : (size least bytes : ℕ) (x : Part) (segs : List Pair) (rest : List Part) → StandFor size least bytes segs → both size least x (Make bytes) ≡ false →
+stand-first : (size least bytes : ℕ) (x : Part) (segs : List Pair) (rest : List Part) →
+    StandFor size least bytes segs → both size least x (Make bytes) ≡ false →
     FirstApart size least x (map Keep segs ++ rest)
 stand-first size least bytes x segs rest (inl single) apart =
     let small : is_small size least (Keep single.0) ≡ is_small size least (Make bytes) = ap (λ (k : ℕ). nat_lt k least) single.2 in
     let here : both size least x (Keep single.0) ≡ false = ap (λ (b : Bool). is_small size least x && b) small ∙ apart in
     subst (λ (xs : List Pair). FirstApart size least x (map Keep xs ++ rest)) (sym single.1) here
 stand-first size least bytes x [] rest (inr large) apart = let none : 0 < 0 = large.0 in absurd (omega (arith, none))
-stand-first size least bytes x (seg ∷ segs) rest (inr large) apart = and_right (is_small size least x) (is_small size least (Keep seg)) large.1.0
+stand-first size least bytes x (seg ∷ segs) rest (inr large) apart =
+    and_right (is_small size least x) (is_small size least (Keep seg)) large.1.0
 
-stand-apart : (size least bytes : ℕ) (segs : List Pair) (rest : List Part) → StandFor size least bytes segs → FirstApart size least (Make bytes) rest → AreApart size least rest →
+stand-apart : (size least bytes : ℕ) (segs : List Pair) (rest : List Part) → StandFor size least bytes segs →
+    FirstApart size least (Make bytes) rest → AreApart size least rest →
     AreApart size least (map Keep segs ++ rest)
 stand-apart size least bytes segs rest (inl single) first apart =
     let small : is_small size least (Keep single.0) ≡ is_small size least (Make bytes) = ap (λ (k : ℕ). nat_lt k least) single.2 in
     let moved : FirstApart size least (Keep single.0) rest = go rest small first in
-    subst (λ (xs : List Pair). AreApart size least (map Keep xs ++ rest)) (sym single.1) (apart-cons size least (Keep single.0) rest moved apart)
+    subst (λ (xs : List Pair). AreApart size least (map Keep xs ++ rest)) (sym single.1)
+    (apart-cons size least (Keep single.0) rest moved apart)
   where
-    go : (rest : List Part) → is_small size least (Keep single.0) ≡ is_small size least (Make bytes) → FirstApart size least (Make bytes) rest → FirstApart size least (Keep single.0) rest
+    go : (rest : List Part) → is_small size least (Keep single.0) ≡ is_small size least (Make bytes) →
+        FirstApart size least (Make bytes) rest → FirstApart size least (Keep single.0) rest
     go [] small first = tt
     go (y ∷ ys) small first = ap (λ (b : Bool). b && is_small size least y) small ∙ first
 stand-apart size least bytes segs rest (inr large) first apart = large-apart size least segs rest large.1 apart
 
 -- what may stand before some parts may stand before what is laid out for them
-laid-first : (size least : ℕ) (x : Part) (parts : List Part) (runs : List (List Extent)) → 0 < size → AllByRecursion (λ part. 1 ≤ part_bytes part) parts → Matched size least parts runs →
+laid-first : (size least : ℕ) (x : Part) (parts : List Part) (runs : List (List Extent)) → 0 < size →
+    AllByRecursion (λ part. 1 ≤ part_bytes part) parts → Matched size least parts runs →
     FirstApart size least x parts → FirstApart size least x (map Keep (laid_parts size parts runs))
 laid-first size least x [] runs some bytes matched first = tt
 laid-first size least x (Keep p ∷ rest) runs some bytes matched first = first
 laid-first size least x (Make count ∷ rest) [] some bytes matched first = absurd matched
 laid-first size least x (Make count ∷ rest) (run ∷ runs) some bytes matched first =
     subst (FirstApart size least x) (sym (map-append Keep (segments_on size count run) (laid_parts size rest runs)))
-    (stand-first size least count x (segments_on size count run) (map Keep (laid_parts size rest runs)) (part-stands size least count run some bytes.0 matched.0) first)
+    (stand-first size least count x (segments_on size count run) (map Keep (laid_parts size rest runs))
+    (part-stands size least count run some bytes.0 matched.0) first)
 
-pub laid-apart : (size least : ℕ) (parts : List Part) (runs : List (List Extent)) → 0 < size → AllByRecursion (λ part. 1 ≤ part_bytes part) parts → Matched size least parts runs →
+pub laid-apart : (size least : ℕ) (parts : List Part) (runs : List (List Extent)) → 0 < size →
+    AllByRecursion (λ part. 1 ≤ part_bytes part) parts → Matched size least parts runs →
     AreApart size least parts → AreApart size least (map Keep (laid_parts size parts runs))
 laid-apart size least [] runs some bytes matched apart = tt
 laid-apart size least (Keep p ∷ rest) runs some bytes matched apart =
@@ -474,6 +540,7 @@ laid-apart size least (Keep p ∷ rest) runs some bytes matched apart =
 laid-apart size least (Make count ∷ rest) [] some bytes matched apart = absurd matched
 laid-apart size least (Make count ∷ rest) (run ∷ runs) some bytes matched apart =
     subst (AreApart size least) (sym (map-append Keep (segments_on size count run) (laid_parts size rest runs)))
-    (stand-apart size least count (segments_on size count run) (map Keep (laid_parts size rest runs)) (part-stands size least count run some bytes.0 matched.0)
+    (stand-apart size least count (segments_on size count run) (map Keep (laid_parts size rest runs))
+    (part-stands size least count run some bytes.0 matched.0)
     (laid-first size least (Make count) rest runs some bytes.1 matched.1 (apart-first size least (Make count) rest apart))
     (laid-apart size least rest runs some bytes.1 matched.1 (apart-rest size least (Make count) rest apart)))

@@ -8,13 +8,14 @@ use Rattle.layout_model.specs.declared.extent.Extent.{Extent}
 use Rattle.layout_model.specs.Plan.{last_entry}
 use Rattle.layout_model.specs.Layout.{tree_entries}
 use Rattle.moment_model.specs.Version.{Version}
-use Rattle.moment_model.specs.Moment.{Moment, slot_at}
+use Rattle.moment_model.specs.Moment.{Moment, object_slot}
 
 -- a run begins right behind the last entry's pages, and lies in one space with them
 pub record FollowsLast (n : Numbers) (entries : List Pair) (run : Extent) : Type 0 where
   pub some : 0 < length entries
   pub behind : run.page ≡ (last_entry entries).page + page_count n.page (last_entry entries).bytes
-  pub together : (s : ℕ) × IsInSpace n s (last_entry entries).page (page_count n.page (last_entry entries).bytes + run.pages)
+  pub together : (s : ℕ) × IsInSpace n s (last_entry entries).page
+      (page_count n.page (last_entry entries).bytes + run.pages)
 
 -- a spare, where there is one, follows the last entry of the version
 abbrev pub IsTail : Numbers → Version → Option Extent → Type 0
@@ -24,4 +25,4 @@ IsTail n (Some tree) (Some run) = FollowsLast n (tree_entries tree) run
 
 -- each spare of a moment follows its object's last entry
 abbrev pub HaveTails : Numbers → Moment → Type 0
-HaveTails n moment = (o : ℕ) → IsTail n (slot_at moment o).working (slot_at moment o).spare
+HaveTails n moment = (o : ℕ) → IsTail n (object_slot moment o).working (object_slot moment o).spare

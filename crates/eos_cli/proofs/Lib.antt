@@ -1,6 +1,2 @@
-mod CountLemmas
-mod HeadlineLemmas
-mod LineLemmas
-mod LineRunLemmas
 mod PlainLemmas
-mod ServedLemmas
+pub mod StepLemmas

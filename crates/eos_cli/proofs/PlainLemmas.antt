@@ -2,7 +2,8 @@
 use Rattle.std.proofs.Common.{◌≡◌, ℕ, ◌+◌, inl, inr, Bool, true, false, cond, Option, Some, None, IsTrue, length, refl, subst, sym}
 use Rattle.std.specs.Prelude.{nat_le, unwrap_or}
 use Rattle.eos_ops.specs.declared.command.Command.{Command}
-use Rattle.eos_ops.specs.declared.command.Command.TheVariants.{Begin, Create, Destroy, Length, Read, Append, Insert, Delete, Replace, Commit, Abort, Status}
+use Rattle.eos_ops.specs.declared.command.Command.TheVariants.{Begin, Create, Destroy, Length, Read, Append, Insert}
+use Rattle.eos_ops.specs.declared.command.Command.TheVariants.{Delete, Replace, Commit, Abort, Status}
 use Rattle.eos_ops.specs.declared.edit.Edit.TheVariants as edit
 use Rattle.eos_ops.specs.declared.outcome.Outcome.{Outcome}
 use Rattle.eos_ops.specs.declared.outcome.Outcome.TheVariants as outcome
@@ -17,7 +18,7 @@ use Rattle.eos_ops.specs.Splice.{part}
 use Rattle.machine.specs.Machine.{Machine, slot_at}
 use Rattle.machine.specs.Replies.{Answers, answer, refused}
 use Rattle.machine.proofs.Answering.{is_refusal, Refuses, refused_refuses}
-use Rattle.eos_cli.specs.Headline.{is_plain_reply}
+use Rattle.eos_cli.specs.Step.{is_plain_reply}
 
 abbrev IsPlain : Reply → Type 0
 IsPlain r = IsTrue (is_plain_reply r)

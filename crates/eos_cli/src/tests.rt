@@ -1,19 +1,132 @@
-//! What no clause says: that a run succeeds with ample memory, and the texts of worked scripts.
+//! What no clause says: that a run succeeds with ample memory, and the texts of scripts.
 use crate::run::run_alone;
 use edge_io::{MemSink, MemSource};
 use std::alloc::{AllocError, Global};
 use std::test::Fail;
 
-/// The lines of a row, between which it has a `/`.
-fn lines(alloc: Global, row: &str) -> Result<Vec<u8>, AllocError> {
-    let mut text = Vec::new(alloc);
-    for byte in row.as_bytes() {
-        text.push(if *byte == b'/' { b'\n' } else { *byte })?;
+/// A script, and the replies that it is to get.
+#[derive(Drop)]
+struct Talk {
+    script: Vec<u8>,
+    replies: Vec<u8>,
+}
+
+/// A command of a session that gets a reply.
+fn say(
+    alloc: Global,
+    talk: &mut Talk,
+    session: u32,
+    command: &str,
+    reply: &str,
+) -> Result<(), AllocError> {
+    let line = format!(in alloc; "{session} {command}\n")?;
+    talk.script.extend_from_slice(line.as_bytes())?;
+    let answer = format!(in alloc; "{session} {reply}\n")?;
+    talk.replies.extend_from_slice(answer.as_bytes())
+}
+
+/// A read of the first bytes of an object that has made ones from this start on.
+fn say_read(
+    alloc: Global,
+    talk: &mut Talk,
+    session: u32,
+    object: u32,
+    len: u32,
+    start: u32,
+) -> Result<(), AllocError> {
+    let line = format!(in alloc; "{session} read {object} 0 {len}\n")?;
+    talk.script.extend_from_slice(line.as_bytes())?;
+    let front = format!(in alloc; "{session} bytes x")?;
+    talk.replies.extend_from_slice(front.as_bytes())?;
+    for i in 0..len {
+        let byte = start.wrapping_add(i.wrapping_mul(7)).wrapping_add(i / 251) % 256;
+        talk.replies.push(digit(byte / 16))?;
+        talk.replies.push(digit(byte % 16))?;
     }
-    if !text.is_empty() {
-        text.push(b'\n')?;
-    }
-    Ok(text)
+    talk.replies.push(b'\n')?;
+    Ok(())
+}
+
+/// The hexadecimal digit of a number below 16.
+fn digit(number: u32) -> u8 {
+    b"0123456789abcdef"
+        .get(number as usize)
+        .copied()
+        .unwrap_or(b'?')
+}
+
+/// A round of the sessions `s` and `s + 32` at object `s - 1`, which is absent before and after it.
+fn say_round(alloc: Global, talk: &mut Talk, s: u32, len: u32) -> Result<(), AllocError> {
+    let object = s.saturating_sub(1);
+    let other = s.saturating_add(32);
+    say(alloc, talk, s, "begin", "ok")?;
+    say(alloc, talk, other, "begin", "ok")?;
+    say(alloc, talk, s, "begin", "active")?;
+    say(alloc, talk, s, &format!(in alloc; "create {object}")?, "ok")?;
+    say(
+        alloc,
+        talk,
+        s,
+        &format!(in alloc; "create {object}")?,
+        "exists",
+    )?;
+    say(
+        alloc,
+        talk,
+        other,
+        &format!(in alloc; "length {object}")?,
+        "busy",
+    )?;
+    say(
+        alloc,
+        talk,
+        s,
+        &format!(in alloc; "append {object} r{len}.{s}")?,
+        "ok",
+    )?;
+    say(
+        alloc,
+        talk,
+        s,
+        &format!(in alloc; "length {object}")?,
+        &format!(in alloc; "length {len}")?,
+    )?;
+    say_read(alloc, talk, s, object, len, s)?;
+    say(
+        alloc,
+        talk,
+        s,
+        &format!(in alloc; "read {object} 1 {len}")?,
+        &format!(in alloc; "range {len}")?,
+    )?;
+    say(
+        alloc,
+        talk,
+        s,
+        &format!(in alloc; "read {object} 0 1048577")?,
+        "toolong",
+    )?;
+    say(alloc, talk, other, "length 32", "noobject")?;
+    say(alloc, talk, other, "status", "status 0 0 0")?;
+    say(
+        alloc,
+        talk,
+        s,
+        &format!(in alloc; "destroy {object}")?,
+        "ok",
+    )?;
+    say(
+        alloc,
+        talk,
+        s,
+        &format!(in alloc; "length {object}")?,
+        "missing",
+    )?;
+    say(alloc, talk, s, "commit", "ok")?;
+    say(alloc, talk, other, "abort", "ok")?;
+    say(alloc, talk, other, "commit", "idle")?;
+    talk.script.extend_from_slice(b"1 frob\n")?;
+    talk.replies.extend_from_slice(b"?\n")
 }
 
 /// The words of a row, between which it has a blank.
@@ -25,7 +138,8 @@ fn words(alloc: Global, row: &str) -> Result<Vec<String>, AllocError> {
     Ok(words)
 }
 
-/// The status and the output of `script` over this input, where some calls of the source and the sink fail.
+/// The status and the output of a run over this input, where some calls of the source and the sink
+/// fail.
 fn run(
     alloc: Global,
     input: Vec<u8>,
@@ -39,149 +153,96 @@ fn run(
 }
 
 #[test]
-fn worked_scripts_get_their_replies(rt: HostRuntime) -> Result<(), Fail> {
-    let rows = [
-        ("", ""),
-        ("1 begin/1 create 0", "1 ok/1 ok"),
-        (
-            "1 begin/1 create 0/1 append 0 x414243/1 read 0 1 2/1 commit",
-            "1 ok/1 ok/1 ok/1 bytes x4243/1 ok",
-        ),
-        (
-            "1 begin/1 create 0/1 append 0 x/1 length 0/1 read 0 0 0/1 read 0 0 1/1 commit",
-            "1 ok/1 ok/1 ok/1 length 0/1 bytes x/1 range 0/1 ok",
-        ),
-        (
-            "1 begin/1 create 0/2 begin/2 length 0/1 abort/2 length 0",
-            "1 ok/1 ok/2 ok/2 busy/1 ok/2 missing",
-        ),
-        (
-            "1 begin/1 create 0/1 insert 0 1 x41/1 create 0",
-            "1 ok/1 ok/1 range 0/1 exists",
-        ),
-        (
-            "1 commit/1 begin/1 begin/1 frob/1 commit",
-            "1 idle/1 ok/1 active/?/1 ok",
-        ),
-        (
-            "1 begin/1 read 0 0 1048577/1 create 0/1 append 0 r1048577.0/65 begin/1 begin ",
-            "1 ok/1 toolong/1 ok/1 toolong/?/?",
-        ),
-        (
-            "1 begin/1 begin/1 read 0 0 1/1 create 0/1 create 0/1 append 0 x/1 read 0 1 0/1 read 0 0 0/1 commit/1 commit/2 begin",
-            "1 ok/1 active/1 missing/1 ok/1 exists/1 ok/1 range 0/1 bytes x/1 ok/1 idle/2 ok",
-        ),
-        (
-            "1 begin/1 create 0/1 append 0 r512.0/1 insert 0 255 x2d/1 read 0 254 5/1 delete 0 255 1/1 insert 0 257 x2d/1 read 0 254 5",
-            "1 ok/1 ok/1 ok/1 ok/1 bytes xf32dfa0108/1 ok/1 ok/1 bytes xf3fa012d08",
-        ),
-        (
-            "1 begin/1 create 0/1 append 0 x41/1 destroy 0/1 length 0/1 create 0/1 length 0/1 abort/1 length 0",
-            "1 ok/1 ok/1 ok/1 ok/1 missing/1 ok/1 length 0/1 ok/1 idle",
-        ),
-        // Numbers and digits at the border of the grammar, and a thrown-away transaction at the end.
-        (
-            "1 begin/1 length 18446744073709551615/1 length 18446744073709551616/1 length 00/01 length 0/1  length 0/1 append 0 x4/1 append 0 xAB/0 begin/1 create 3 0/1 create 3 8193/1 create 3 8192/1 status",
-            "1 ok/1 noobject/?/?/?/?/?/?/?/?/?/1 ok/?",
-        ),
-    ];
-    for (script, replies) in rows {
-        let (status, output) = run(
-            rt.alloc(),
-            lines(rt.alloc(), script)?,
-            Vec::new(rt.alloc()),
-            Vec::new(rt.alloc()),
-        )?;
-        assert_eq!(rt; status, 0, "{script}");
-        assert_eq!(rt; output, lines(rt.alloc(), replies)?, "{script}");
+fn no_line_of_thousands_wants_memory(rt: HostRuntime) -> Result<(), Fail> {
+    let alloc = rt.alloc();
+    let mut talk = Talk {
+        script: Vec::new(alloc),
+        replies: Vec::new(alloc),
+    };
+    for round in 0..10u32 {
+        for s in 1..33u32 {
+            let len = if s == round && round > 7 {
+                1_048_576
+            } else {
+                97 * s
+            };
+            say_round(alloc, &mut talk, s, len)?;
+        }
     }
+    let (status, output) = run(alloc, talk.script, Vec::new(alloc), Vec::new(alloc))?;
+    assert_eq!(rt; status, 0);
+    assert!(rt; output == talk.replies);
     Ok(())
 }
 
 #[test]
 fn a_seventeenth_object_is_refused_before_it_is_looked_for(rt: HostRuntime) -> Result<(), Fail> {
-    let mut script = lines(rt.alloc(), "1 begin")?;
-    let mut replies = lines(rt.alloc(), "1 ok")?;
+    let alloc = rt.alloc();
+    let mut talk = Talk {
+        script: Vec::new(alloc),
+        replies: Vec::new(alloc),
+    };
+    say(alloc, &mut talk, 1, "begin", "ok")?;
     for object in 0..16u32 {
-        script.extend_from_slice(format!(in rt.alloc(); "1 create {object}\n")?.as_bytes())?;
-        replies.extend_from_slice(b"1 ok\n")?;
+        say(
+            alloc,
+            &mut talk,
+            1,
+            &format!(in alloc; "create {object}")?,
+            "ok",
+        )?;
     }
-    script.extend_from_slice(b"1 create 16\n1 create 32\n")?;
-    replies.extend_from_slice(b"1 full\n1 noobject\n")?;
-    let (status, output) = run(
-        rt.alloc(),
-        script,
-        Vec::new(rt.alloc()),
-        Vec::new(rt.alloc()),
-    )?;
-    assert_eq!(rt; (status, output), (0, replies));
-    Ok(())
-}
-
-#[test]
-fn four_sessions_in_each_others_way(rt: HostRuntime) -> Result<(), Fail> {
-    let script =
-        "1 begin/2 begin/3 begin/4 begin/1 create 0/2 create 1/3 length 0/1 append 0 x6f6e65/2 append 1 r5.65/2 read 1 0 5/1 commit/3 length 0/4 read 1 0 5/3 insert 0 3 x2121/2 abort/4 read 1 0 5/4 create 1/4 append 1 x74776f/3 replace 0 0 x4f/3 read 0 0 5/3 abort/1 begin/1 read 0 0 4/1 read 0 0 3/1 delete 0 1 2/1 length 0/4 commit/2 begin/2 read 1 1 2/2 length 0/1 commit/2 length 0/2 destroy 0/2 length 0/2 frob/2 commit/3 begin/3 length 0/3 create 0 8192/4 begin/4 create 0";
-    let replies =
-        "1 ok/2 ok/3 ok/4 ok/1 ok/2 ok/3 busy/1 ok/2 ok/2 bytes x41484f565d/1 ok/3 length 3/4 busy/3 ok/2 ok/4 missing/4 ok/4 ok/3 ok/3 bytes x4f6e652121/3 ok/1 ok/1 range 3/1 bytes x6f6e65/1 ok/1 length 1/4 ok/2 ok/2 bytes x776f/2 busy/1 ok/2 length 1/2 ok/2 missing/?/2 ok/3 ok/3 missing/3 ok/4 ok/4 busy";
-    let (status, output) = run(
-        rt.alloc(),
-        lines(rt.alloc(), script)?,
-        Vec::new(rt.alloc()),
-        Vec::new(rt.alloc()),
-    )?;
-    assert_eq!(rt; status, 0);
-    assert_eq!(rt; output, lines(rt.alloc(), replies)?);
+    say(alloc, &mut talk, 1, "create 16", "full")?;
+    say(alloc, &mut talk, 1, "create 32", "noobject")?;
+    let (status, output) = run(alloc, talk.script, Vec::new(alloc), Vec::new(alloc))?;
+    assert_eq!(rt; (status, output), (0, talk.replies));
     Ok(())
 }
 
 #[test]
 fn a_text_of_any_bytes_is_answered_and_nothing_is_lost(rt: HostRuntime) -> Result<(), Fail> {
-    let mut input = lines(rt.alloc(), "1 begin")?;
-    input.extend_from_slice(b"\0\n\xff\xfe\n1 commit\r\n\n")?;
+    let alloc = rt.alloc();
+    let mut input = Vec::from_slice(alloc, b"1 begin\n\0\n\xff\xfe\n1 commit\r\n\n")?;
     for _ in 0..60000 {
         input.push(b' ')?;
     }
     input.extend_from_slice(b"\n1 commit")?;
-    let (status, output) = run(
-        rt.alloc(),
-        input,
-        Vec::new(rt.alloc()),
-        Vec::new(rt.alloc()),
-    )?;
+    let (status, output) = run(alloc, input, Vec::new(alloc), Vec::new(alloc))?;
     assert_eq!(rt; status, 0);
-    assert_eq!(rt; output, lines(rt.alloc(), "1 ok/?/?/?/?/?/1 ok")?);
+    assert_eq!(rt;
+        output.as_slice(),
+        b"1 ok\n?\n?\n?\n?\n?\n1 ok\n".as_slice()
+    );
     Ok(())
 }
 
 #[test]
 fn each_failure_has_its_status(rt: HostRuntime) -> Result<(), Fail> {
-    let script = "1 begin/1 commit";
     // The call of the source that fails, that of the sink, the status, and the output.
     let cases = [
-        (0, 0, 0, "1 ok/1 ok"),
-        (1, 0, 3, ""),
-        (2, 0, 3, ""),
-        (0, 1, 4, ""),
-        (0, 2, 4, "1 ok"),
+        (0, 0, 0, b"1 ok\n1 ok\n".as_slice()),
+        (1, 0, 3, b""),
+        (2, 0, 3, b""),
+        (0, 1, 4, b""),
+        (0, 2, 4, b"1 ok\n"),
     ];
     for (read, write, want, replies) in cases {
         let (status, output) = run(
             rt.alloc(),
-            lines(rt.alloc(), script)?,
+            Vec::from_slice(rt.alloc(), b"1 begin\n1 commit\n")?,
             vec![in rt.alloc(); read]?,
             vec![in rt.alloc(); write]?,
         )?;
         assert_eq!(rt; status, want, "read {read}, write {write}");
-        assert_eq!(rt; output, lines(rt.alloc(), replies)?);
+        assert_eq!(rt; output.as_slice(), replies);
     }
-
     Ok(())
 }
 
 #[test]
 fn a_line_and_a_script_have_a_limit(rt: HostRuntime) -> Result<(), Fail> {
-    // The bytes of a line, how many lines there are, and the status: at the limits, and one byte past them.
+    // The bytes of a line, how many lines there are, and the status: at the limits, and one byte
+    // past them.
     let sizes = [
         (65_536, 1, 0),
         (65_537, 1, 7),

@@ -18,7 +18,8 @@ last_stamp_of-at (f ∷ []) (suc i) e last found = absurd (omega arith)
 last_stamp_of-at (f ∷ g ∷ ends) zero e last found = absurd (omega arith)
 last_stamp_of-at (f ∷ g ∷ ends) (suc i) e last found = last_stamp_of-at (g ∷ ends) i e (omega arith) found
 
-pub last_stamp_of-last : (ends : List End) (e : End) → 0 < length ends → slice_get ends (length ends - 1) ≡ Some e → last_stamp_of ends ≡ e.stamp
+pub last_stamp_of-last : (ends : List End) (e : End) → 0 < length ends → slice_get ends (length ends - 1) ≡ Some e →
+    last_stamp_of ends ≡ e.stamp
 last_stamp_of-last ends e some found = last_stamp_of-at ends (length ends - 1) e (omega arith) found
 
 -- one end more, of a later stamp

@@ -1,1 +1,3 @@
+pub mod EditLemmas
 pub mod EndsLemmas
+pub mod MemoryLemmas

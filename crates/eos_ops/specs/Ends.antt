@@ -13,7 +13,8 @@ pub record KeptEnds : Type 0 where
   pub ends : List End
   pub spare : ℕ
 
--- what stamps that rise from 1 on leave: there are no more ends than the last stamp says, and it is no later than the last one there is
+-- what stamps that rise from 1 on leave: there are no more ends than the last stamp says, and it
+-- is no later than the last one there is
 pub record AreAges (ends : List End) : Type 0 where
   pub within : last_stamp_of ends ≤ 2 ^ 62
   pub few : length ends ≤ last_stamp_of ends

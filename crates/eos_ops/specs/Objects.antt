@@ -1,8 +1,11 @@
 -- What the plain object answers to a command, and what it is afterwards.
-use Rattle.std.specs.Prelude.{ℕ, ◌+◌, length, nat_le, nat_lt, Bool, false, if◌then◌else◌, Option, Some, None}
+use Rattle.std.specs.Prelude.{ℕ, ◌+◌, length, nat_le, nat_lt, Bool, false, if◌then◌else◌, Option}
+use Rattle.std.specs.Prelude.{Some, None}
 use Rattle.eos_ops.specs.declared.limits.TheConstants.{MAX_TRANSFER}
 use Rattle.eos_ops.specs.declared.command.Command.{Command}
-use Rattle.eos_ops.specs.declared.command.Command.TheVariants.{Begin, Create, Destroy, Length, Read, Append, Insert, Delete, Replace, Commit, Abort, Status}
+use Rattle.eos_ops.specs.declared.command.Command.TheVariants.{Begin, Create, Destroy, Length}
+use Rattle.eos_ops.specs.declared.command.Command.TheVariants.{Read, Append, Insert, Delete}
+use Rattle.eos_ops.specs.declared.command.Command.TheVariants.{Replace, Commit, Abort, Status}
 use Rattle.eos_ops.specs.declared.edit.Edit.{Edit}
 use Rattle.eos_ops.specs.declared.edit.Edit.TheVariants as edit
 use Rattle.eos_ops.specs.declared.outcome.Outcome.{Outcome}
@@ -91,10 +94,12 @@ length_in (Present x) = reply.Length (length x)
 -- the n bytes of an object from `at` on
 abbrev pub read_in : ℕ → ℕ → Plain → Reply
 read_in at n Absent = reply.Missing
-read_in at n (Present x) = if nat_le (at + n) (length x) then reply.Bytes (part x at n) else reply.Range (length x)
+read_in at n (Present x) = if nat_le (at + n)
+    (length x) then reply.Bytes (part x at n) else reply.Range (length x)
 
--- The reply of the plain object to a command on it: its length, the bytes that it asks for, or what becomes of
--- the edit that it makes. (A command on no object has no such reply, and `Idle` stands in its place.)
+-- The reply of the plain object to a command on it: its length, the bytes that it asks for, or
+-- what becomes of the edit that it makes. (A command on no object has no such reply, and `Idle`
+-- stands in its place.)
 unfoldable pub reply_in : Command → Plain → Reply
 reply_in (Length o) object = length_in object
 reply_in (Read o at n) object = read_in at n object

@@ -1,4 +1,5 @@
--- The four changes of a string of bytes, and a part of one. Whether they fit is said where they are used.
+-- The four changes of a string of bytes, and a part of one. Whether they fit is said where they
+-- are used.
 use Rattle.std.specs.Prelude.{ℕ, ◌+◌, List, ◌++◌, length, take, drop}
 
 -- the n bytes from `at` on

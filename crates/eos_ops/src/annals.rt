@@ -1,6 +1,8 @@
 //! What is written down of the ends of transactions.
 
-ghost use Rattle.std.specs.Prelude.{◌≡◌, ℕ, ◌+◌, ◌<◌, ◌≤◌, ◌^◌, ◌↔◌, ◌∷◌, [], ◌++◌, List, Option, Bool, is_some, IsTrue, IsSome, IfSome, OnOk, OnErr, length};
+ghost use Rattle.std.specs.Prelude.{◌≡◌, ℕ, ◌+◌, ◌<◌, ◌≤◌, ◌^◌, ◌↔◌, ◌∷◌, [], ◌++◌, List, Option};
+ghost use Rattle.std.specs.Prelude.{Bool, true, is_some, IsTrue, IsSome, IfSome, OnOk, OnErr};
+ghost use Rattle.std.specs.Prelude.{length};
 ghost use Rattle.std.specs.Option.{option_map, option_map_or};
 ghost use Rattle.eos_ops.specs.Ends.{last_stamp_of};
 
@@ -8,7 +10,7 @@ use crate::End;
 use std::alloc::{AllocError, Global};
 
 /// The ends of the transactions that held an object, in order, or their last stamp alone.
-pub trait Annals: Drop + Send {
+pub trait Annals: Drop {
     ghost use Rattle.eos_ops.specs.declared.end.End.{End};
 
     /// The ends, where they are told.
@@ -35,9 +37,11 @@ pub trait Annals: Drop + Send {
 
     /// Makes room for `n` more ends.
     ///
-    /// `AllocError` says that there was no memory for it. The ends stay, and so does the room that there was.
+    /// `AllocError` says that there was no memory for it. The ends stay, and so does the room that there was. Annals
+    /// that don't tell their ends take no memory.
     fn reserve(&mut self, n: usize) -> Result<(), AllocError>
         ensures ok { OnOk result (n ≤ spare self.new) }
+        ensures err { OnErr result (tells ≡ true) }
         ensures spare { spare self.old ≤ spare self.new }
         ensures told { told self.new ≡ told self.old }
         ensures last { last self.new ≡ last self.old };
@@ -57,7 +61,8 @@ pub trait Annals: Drop + Send {
         ensures within { result ≤ 2 ^ 62 }
 
         // Where the ends are told it is the last one's, and there are no more ends than it says.
-        ensures told { IfSome (told self.now) (λ ends. (result ≡ last_stamp_of ends) × (length ends ≤ result)) };
+        ensures told { IfSome (told self.now)
+            (λ ends. (result ≡ last_stamp_of ends) × (length ends ≤ result)) };
 
     /// How many ends there were, where they are told, else 0.
     fn ends(&self) -> u64

@@ -8,14 +8,14 @@ use std::alloc::{AllocError, Global};
 
 /// Makes an edit in place, and says what became of it.
 ///
-/// It takes memory only for bytes that it puts in. `AllocError` says that there was none, and leaves the object as
-/// it was.
+/// It takes memory only for bytes that it puts in. `AllocError` says that there was none, and
+/// leaves the object as it was.
 pub fn apply_plain(alloc: Global, edit: &Edit, object: &mut Plain) -> Result<Outcome, AllocError>
     ensures outcome { IfOk result (λ outcome. outcome ≡ outcome_in edit.now object.old) }
     ensures ok { OnOk result (object.new ≡ edited edit.now object.old) }
 
-    // Want of memory comes only where bytes are put in, by an edit that could be made, and leaves the object as it
-    // was.
+    // Want of memory comes only where bytes are put in, by an edit that could be made, and leaves
+    // the object as it was.
     ensures memory { OnErr result (PutsBytes edit.now object.old) }
     ensures fits { OnErr result (outcome_in edit.now object.old ≡ Outcome.Done) }
     ensures err { OnErr result (object.new ≡ object.old) }

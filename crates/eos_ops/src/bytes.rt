@@ -1,6 +1,7 @@
 //! A string of bytes that contracts see as a list, and the four changes that edits make to it.
 
-ghost use Rattle.std.specs.Prelude.{◌≡◌, ℕ, ◌+◌, ◌<◌, ◌≤◌, ◌==◌, [], ◌++◌, length, take, drop, nat_le, OnOk, OnErr, IfOk};
+ghost use Rattle.std.specs.Prelude.{◌≡◌, ℕ, ◌+◌, ◌<◌, ◌≤◌, ◌==◌, [], ◌++◌, length, take, drop};
+ghost use Rattle.std.specs.Prelude.{nat_le, OnOk, OnErr, IfOk};
 ghost use Rattle.eos_ops.specs.Splice.{part, inserted, deleted, replaced};
 
 use std::alloc::{AllocError, Global};

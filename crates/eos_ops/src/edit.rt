@@ -23,7 +23,8 @@ pub enum Edit {
 }
 
 impl Edit {
-    /// What becomes of the edit on this object: `Done` where it can be made. It looks only, and takes no memory.
+    /// What becomes of the edit on this object: `Done` where it can be made. It looks only, and
+    /// takes no memory.
     pub fn outcome(&self, object: &Plain) -> Outcome
         ensures { result ≡ outcome_in self.now object.now }
     {

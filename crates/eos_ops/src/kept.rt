@@ -19,7 +19,11 @@ impl Model for Kept {
 
     ghost Value = { KeptEnds };
 
-    ghost view = { λ k. record { ends = k.list.items; spare = vec_capacity k.list - vec_len k.list } };
+    ghost view = { λ k. record {
+      ends = k.list.items;
+      spare =
+          vec_capacity k.list - vec_len k.list;
+    } };
 
     ghost invariant = { λ k. AreAges k.list.items };
 }

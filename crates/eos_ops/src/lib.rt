@@ -1,9 +1,9 @@
 //! The words that all layers share: commands and replies, edits of one byte string, and ends of
 //! transactions.
 //!
-//! A command asks something of an object, which is absent or a string of bytes. `specs/` says what the
-//! plain object answers and what becomes of it; each layer above, whatever it keeps in place of one
-//! string, answers by that same definition.
+//! A command asks something of an object, which is absent or a string of bytes. `specs/` says what
+//! the plain object answers and what becomes of it; each layer above, whatever it keeps in place of
+//! one string, answers by that same definition.
 #![tactic(auto)]
 
 mod act;

@@ -1,10 +1,11 @@
 //! A bay over a file.
 ghost use Rattle.std.specs.Prelude.{◌≡◌, ◌≤◌, length, IfOk, OnOk, IsSome, None, string_bytes};
-ghost use Rattle.page_port.specs.Counts.{Rose};
+ghost use Rattle.fault_count.specs.Counts.{Rose};
 ghost use Rattle.file_port.specs.Files.{file_device};
 
 use crate::file_port::FilePort;
 use crate::file_span::FileSpan;
+use fault_count::counted;
 use page_port::{Bay, BayFail, DeviceFault};
 use std::alloc::{AllocError, Global};
 use std::fs::{File, OpenOptions};
@@ -12,9 +13,9 @@ use std::io;
 use std::os::unix::fs::FileExt;
 use std::rt::Files;
 
-/// A device that is a file. Its first call opens the file and keeps it open; `prepare` makes it where
-/// there is none, and for every other call a file that can't be opened is a failure of that call. Each
-/// port has an open file of its own.
+/// A device that is a file. Its first call opens the file and keeps it open; `prepare` makes it
+/// where there is none, and for every other call a file that can't be opened is a failure of that
+/// call. Each port has an open file of its own.
 #[derive(Drop)]
 pub struct FileBay<R: Files<File = File> + Clone + Drop> {
     rt: R,
@@ -116,11 +117,13 @@ impl<R: Files<File = File> + Clone + Drop> FileBay<R> {
         ensures raised { Rose self.old.faults self.new.faults }
         ensures mounted { self.new.mounted ≡ self.old.mounted }
     {
-        self.faults = self.faults.saturating_add(1);
+        self.faults = counted(self.faults, 1);
     }
 }
 
 impl<R: Files<File = File> + Clone + Drop> Bay for FileBay<R> {
+    type S = FileSpan;
+
     type P = FilePort;
 
     ghost device = { λ b. file_device b.mounted b.faults };
@@ -174,7 +177,7 @@ impl<R: Files<File = File> + Clone + Drop> Bay for FileBay<R> {
     }
 
     fn absorb(&mut self, port: FilePort) {
-        self.faults = self.faults.saturating_add(port.faults());
+        self.faults = counted(self.faults, port.faults());
     }
 
     fn restore(&mut self, _span: FileSpan) {}

@@ -1,9 +1,10 @@
 //! Ports to a file, each with its own open file.
 ghost use Rattle.std.specs.Prelude.{◌≡◌};
-ghost use Rattle.page_port.specs.Counts.{new_meter};
+ghost use Rattle.fault_count.specs.Counts.{new_meter};
 
 use crate::file_span::FileSpan;
-use page_port::{DeviceFault, Port, counted};
+use fault_count::counted;
+use page_port::{DeviceFault, Port};
 use std::fs::File;
 use std::os::unix::fs::FileExt;
 

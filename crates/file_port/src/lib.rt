@@ -1,7 +1,7 @@
 //! The device over a file: positioned reads and writes, one system call for a run of pages.
 //!
-//! A file's bytes are unknown to contracts. What is proved here is safety, and that a fault comes only
-//! where its count rose; that the file holds what was written is trusted, and tested.
+//! A file's bytes are unknown to contracts. What is proved here is safety, and that a fault comes
+//! only where its count rose; that the file holds what was written is trusted, and tested.
 #![tactic(auto)]
 
 mod file_bay;

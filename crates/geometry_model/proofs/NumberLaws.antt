@@ -48,7 +48,8 @@ space_pages-high n h = omega (arith, h.order_high, page_size-high n.page h.page_
 -- a store has at most 4,194,577 pages
 pub pages-high : (n : Numbers) → IsInRange n → pages n ≤ 4194577
 pages-high n h =
-    let rows : n.spaces * (1 + space_pages n) ≤ 256 * (1 + 16384) = mul-le n.spaces (1 + space_pages n) 256 (1 + 16384) h.spaces_high (omega (arith, space_pages-high n h)) in
+    let rows : n.spaces * (1 + space_pages n) ≤ 256 * (1 + 16384) =
+    mul-le n.spaces (1 + space_pages n) 256 (1 + 16384) h.spaces_high (omega (arith, space_pages-high n h)) in
     omega (arith, h.catalog_high)
 
 -- a node has room for 20 to 340 pairs
@@ -81,5 +82,6 @@ sixteens size h = grind (arith, page_size-cases size h)
 pub objects-bytes : (n : Numbers) → IsInRange n → 16 * objects n ≡ n.catalog * n.page
 objects-bytes n h =
     let parts : n.page ≡ 16 * (n.page / 16) = sixteens n.page h.page_size in
-    let bytes : n.catalog * n.page ≡ 16 * (n.catalog * (n.page / 16)) = ap (λ p. n.catalog * p) parts ∙ mul_left_comm n.catalog 16 (n.page / 16) in
+    let bytes : n.catalog * n.page ≡ 16 * (n.catalog * (n.page / 16)) = ap (λ p. n.catalog * p) parts
+    ∙ mul_left_comm n.catalog 16 (n.page / 16) in
     omega (arith, bytes)

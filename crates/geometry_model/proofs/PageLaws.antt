@@ -1,6 +1,7 @@
 -- A data page has one space and one place.
 use Rattle.std.specs.Prelude.{unwrap_or}
-use Rattle.std.proofs.Common.{◌≡◌, ℕ, ◌+◌, ◌-◌, ◌*◌, ◌/◌, ◌%◌, ◌<◌, ◌≤◌, Bool, true, false, ◌&&◌, nat_lt, nat_le, refl, arith, Option, Some, None, if◌then◌else◌, mul-le-mul_right, ap, sym, ◌∙◌}
+use Rattle.std.proofs.Common.{◌≡◌, ℕ, ◌+◌, ◌-◌, ◌*◌, ◌/◌, ◌%◌, ◌<◌, ◌≤◌, Bool, true, false, ◌&&◌, nat_lt, nat_le}
+use Rattle.std.proofs.Common.{refl, arith, Option, Some, None, if◌then◌else◌, mul-le-mul_right, ap, sym, ◌∙◌}
 use Rattle.std.proofs.lemmas.Bool.Decides.{nat_tests}
 use Rattle.std.proofs.lemmas.Nat.{div-mul-add, mod-mul-add, same_from_place, div_below, div-add-mod', mod_below}
 use Rattle.geometry_model.specs.Numbers.{Numbers, space_pages, pages}
@@ -24,8 +25,10 @@ unfolding place
 place-data_page n s at hs ha =
     let row : at + 1 < 1 + space_pages n = omega arith in
     let from : data_page n s at - (1 + n.catalog) ≡ s * (1 + space_pages n) + (at + 1) = omega arith in
-    let space : (data_page n s at - (1 + n.catalog)) / (1 + space_pages n) ≡ s = ap (λ k. k / (1 + space_pages n)) from ∙ div-mul-add s (1 + space_pages n) (at + 1) row in
-    let place_in : (data_page n s at - (1 + n.catalog)) % (1 + space_pages n) ≡ at + 1 = ap (λ k. k % (1 + space_pages n)) from ∙ mod-mul-add s (1 + space_pages n) (at + 1) row in
+    let space : (data_page n s at - (1 + n.catalog)) / (1 + space_pages n) ≡ s =
+    ap (λ k. k / (1 + space_pages n)) from ∙ div-mul-add s (1 + space_pages n) (at + 1) row in
+    let place_in : (data_page n s at - (1 + n.catalog)) % (1 + space_pages n) ≡ at + 1 =
+    ap (λ k. k % (1 + space_pages n)) from ∙ mod-mul-add s (1 + space_pages n) (at + 1) row in
     let below : data_page n s at < pages n = data_page-below n s at hs ha in
     grind (arith, nat_tests, space, place_in, below)
 
@@ -43,7 +46,8 @@ unfolding place
 IsPlace-from_place n page s at h =
     let row : ℕ = page - (1 + n.catalog) in
     let width : ℕ = 1 + space_pages n in
-    let chosen = from_choice (nat_le (1 + n.catalog) page && (nat_lt page (pages n) && nat_lt 0 (row % width))) (row / width) (row % width - 1) s at h in
+    let chosen = from_choice (nat_le (1 + n.catalog) page && (nat_lt page (pages n) && nat_lt 0 (row % width)))
+    (row / width) (row % width - 1) s at h in
     let behind : 1 + n.catalog ≤ page = grind (arith, nat_tests, chosen.0) in
     let before : page < pages n = grind (arith, nat_tests, chosen.0) in
     let is_data : 0 < row % width = grind (arith, nat_tests, chosen.0) in
@@ -69,7 +73,8 @@ place-none n page none s at h = let some = place-of_IsPlace n page s at h in cc
 pub IsPlace-unique : (n : Numbers) (page s at s2 at2 : ℕ) → IsPlace n page s at → IsPlace n page s2 at2 → (s ≡ s2) × (at ≡ at2)
 IsPlace-unique n page s at s2 at2 h h2 =
     let one : data_page n s at ≡ data_page n s2 at2 = sym h.is_page ∙ h2.is_page in
-    let places = same_from_place s at s2 at2 (1 + space_pages n) (omega (arith, h.in_space)) (omega (arith, h2.in_space)) (omega (arith, one)) in
+    let places = same_from_place s at s2 at2 (1 + space_pages n) (omega (arith, h.in_space))
+    (omega (arith, h2.in_space)) (omega (arith, one)) in
     places
 
 -- pages of two spaces differ
@@ -91,7 +96,8 @@ IsPlace-in_run n s first count page h low high = record {
 -- a run of data pages lies behind the catalog and before the store's end
 pub IsInSpace-below : (n : Numbers) (s first count : ℕ) → IsInSpace n s first count → first + count ≤ pages n
 IsInSpace-below n s first count h =
-    let rows : (s + 1) * (1 + space_pages n) ≤ n.spaces * (1 + space_pages n) = mul-le-mul_right (1 + space_pages n) (omega (arith, h.in_store)) in
+    let rows : (s + 1) * (1 + space_pages n) ≤ n.spaces * (1 + space_pages n) =
+    mul-le-mul_right (1 + space_pages n) (omega (arith, h.in_store)) in
     omega (arith, rows, h.to)
 
 pub IsInSpace-behind : (n : Numbers) (s first count : ℕ) → IsInSpace n s first count → n.catalog + 2 ≤ first
@@ -102,7 +108,8 @@ pub place-directory : (n : Numbers) (s : ℕ) → place n (directory_page n s) �
 unfolding place
 place-directory n s =
     let from : directory_page n s - (1 + n.catalog) ≡ s * (1 + space_pages n) + 0 = omega arith in
-    let at : (directory_page n s - (1 + n.catalog)) % (1 + space_pages n) ≡ 0 = ap (λ k. k % (1 + space_pages n)) from ∙ mod-mul-add s (1 + space_pages n) 0 (omega arith) in
+    let at : (directory_page n s - (1 + n.catalog)) % (1 + space_pages n) ≡ 0 =
+    ap (λ k. k % (1 + space_pages n)) from ∙ mod-mul-add s (1 + space_pages n) 0 (omega arith) in
     grind (arith, nat_tests, at)
 
 pub place-catalog : (n : Numbers) (page : ℕ) → page ≤ n.catalog → place n page ≡ None

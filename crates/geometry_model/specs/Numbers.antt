@@ -1,8 +1,10 @@
 -- The five numbers that fix a store, their ranges, and the numbers that follow from them.
-use Rattle.std.specs.Prelude.{ℕ, ◌+◌, ◌-◌, ◌*◌, ◌/◌, ◌^◌, ◌≤◌, Bool, ◌==◌, ◌&&◌, ◌||◌, nat_le, IsTrue}
+use Rattle.std.specs.Prelude.{ℕ, ◌+◌, ◌-◌, ◌*◌, ◌/◌, ◌^◌, ◌≤◌, Bool, ◌==◌, ◌&&◌, ◌||◌, nat_le}
+use Rattle.std.specs.Prelude.{IsTrue}
 
--- a store has pages of `page` bytes, and `spaces` spaces of `2 ^ order` data pages each; its catalog
--- has `catalog` pages, and `threshold` is the one that a new object gets where none is asked for
+-- a store has pages of `page` bytes, and `spaces` spaces of `2 ^ order` data pages each; its
+-- catalog has `catalog` pages, and `threshold` is the one that a new object gets where none is
+-- asked for
 pub record Numbers : Type 0 where
   pub page : ℕ
   pub order : ℕ
@@ -14,7 +16,8 @@ pub record Numbers : Type 0 where
 abbrev pub is_page_size : ℕ → Bool
 is_page_size size = size == 256 || (size == 512 || (size == 1024 || (size == 2048 || size == 4096)))
 
--- the numbers are those of a store. The bitmap of a space, `2 ^ order` bits, takes at most half of a page
+-- the numbers are those of a store. The bitmap of a space, `2 ^ order` bits, takes at most half
+-- of a page
 pub record IsInRange (n : Numbers) : Type 0 where
   pub page_size : IsTrue (is_page_size n.page)
   pub order_low : 4 ≤ n.order

@@ -1,5 +1,6 @@
 -- Which page is whose: directories, data pages, and the space and place of a data page.
-use Rattle.std.specs.Prelude.{◌≡◌, ℕ, ◌+◌, ◌-◌, ◌*◌, ◌/◌, ◌%◌, ◌<◌, ◌≤◌, Bool, ◌&&◌, nat_lt, nat_le, Option, Some, None, if◌then◌else◌, is_some}
+use Rattle.std.specs.Prelude.{◌≡◌, ℕ, ◌+◌, ◌-◌, ◌*◌, ◌/◌, ◌%◌, ◌<◌, ◌≤◌, Bool, ◌&&◌, nat_lt}
+use Rattle.std.specs.Prelude.{nat_le, Option, Some, None, if◌then◌else◌, is_some}
 use Rattle.geometry_model.specs.Numbers.{Numbers, space_pages, pages}
 
 -- the directory page of space s

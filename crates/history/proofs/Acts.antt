@@ -32,6 +32,7 @@ pub replayed-push : (acts : List Act) (a : Act) (x : Plain) → replayed x (acts
 replayed-push [] a x = refl
 replayed-push (b ∷ acts) a x = replayed-push acts a (after_in b.command x)
 
-pub RightAt-push : (acts : List Act) (a : Act) (x : Plain) → RightAt x acts → reply_in a.command (replayed x acts) ≡ a.reply → RightAt x (acts ++ a ∷ [])
+pub RightAt-push : (acts : List Act) (a : Act) (x : Plain) → RightAt x acts →
+    reply_in a.command (replayed x acts) ≡ a.reply → RightAt x (acts ++ a ∷ [])
 RightAt-push [] a x right reply = (reply, tt)
 RightAt-push (b ∷ acts) a x right reply = (right.0, RightAt-push acts a (after_in b.command x) right.1 reply)

@@ -13,5 +13,6 @@ Serial-append [] ys db mid last p q = subst (λ (d : List Plain). Serial d ys la
 Serial-append (e ∷ xs) ys db mid last p q = (p.0, Serial-append xs ys (after_end db e) mid last p.1 q)
 
 -- one end more
-pub Serial-push : (ends : List Ended) (e : Ended) (db mid : List Plain) → Serial db ends mid → RightActs mid e.acts → Serial db (ends ++ e ∷ []) (after_end mid e)
+pub Serial-push : (ends : List Ended) (e : Ended) (db mid : List Plain) → Serial db ends mid →
+    RightActs mid e.acts → Serial db (ends ++ e ∷ []) (after_end mid e)
 Serial-push ends e db mid p right = Serial-append ends (e ∷ []) db mid (after_end mid e) p (right, refl)

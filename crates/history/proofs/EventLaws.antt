@@ -1,11 +1,13 @@
 -- What holds of events: commands with their bytes spelled out, and held objects.
-use Rattle.std.proofs.Common.{◌≡◌, ℕ, List, [], ◌∷◌, ◌++◌, Bool, true, false, ◌&&◌, ◌||◌, Option, Some, None, eqb, refl, sym, ap, ◌∙◌, inl, inr}
+use Rattle.std.proofs.Common.{◌≡◌, ℕ, List, [], ◌∷◌, ◌++◌, Bool, true, false, ◌&&◌, ◌||◌, Option, Some, None, eqb}
+use Rattle.std.proofs.Common.{refl, sym, ap, ◌∙◌, inl, inr}
 use Rattle.std.specs.Prelude.{is_some}
 use Rattle.std.specs.Option.{option_map, option_map_or}
 use Rattle.std.proofs.lemmas.Bool.{cases_Bool, cond-true, cond-false, or_cases, and_parts}
 use Rattle.eos_ops.specs.declared.act.Act.{Act}
 use Rattle.eos_ops.specs.declared.command.Command.{Command}
-use Rattle.eos_ops.specs.declared.command.Command.TheVariants.{Begin, Create, Destroy, Length, Read, Append, Insert, Delete, Replace, Commit, Abort, Status}
+use Rattle.eos_ops.specs.declared.command.Command.TheVariants.{Begin, Create, Destroy, Length, Read, Append, Insert}
+use Rattle.eos_ops.specs.declared.command.Command.TheVariants.{Delete, Replace, Commit, Abort, Status}
 use Rattle.eos_ops.specs.declared.plain.Plain.{Plain}
 use Rattle.eos_ops.specs.declared.reply.Reply.{Reply}
 use Rattle.eos_ops.specs.Objects.{object_of, with_bytes, reply_in, after_in}
@@ -65,17 +67,20 @@ deed-object c r o on = ap (λ (t : Option ℕ). option_map_or (λ p. answered p 
 pub deed-bounds : (c : Command) (r : Reply) → object_of c ≡ None → deed c r ≡ bounded c (is_done r)
 deed-bounds c r off = ap (λ (t : Option ℕ). option_map_or (λ p. answered p (with_bytes c) r) t (bounded c (is_done r))) off
 
-pub opened-own : (s : ℕ) (e : Event) (past : List Event) → eqb e.session s ≡ true → opened s (e ∷ past) ≡ acts_after (deed_of e) (opened s past)
+pub opened-own : (s : ℕ) (e : Event) (past : List Event) → eqb e.session s ≡ true →
+    opened s (e ∷ past) ≡ acts_after (deed_of e) (opened s past)
 opened-own s e past own = cond-true (eqb e.session s) (acts_after (deed_of e) (opened s past)) (opened s past) own
 
 pub opened-other : (s : ℕ) (e : Event) (past : List Event) → eqb e.session s ≡ false → opened s (e ∷ past) ≡ opened s past
 opened-other s e past other = cond-false (eqb e.session s) (acts_after (deed_of e) (opened s past)) (opened s past) other
 
-pub holds-own : (s o : ℕ) (e : Event) (past : List Event) → eqb e.session s ≡ true → holds s o (e ∷ past) ≡ holds_after (deed_of e) o (is_open s past) (holds s o past)
+pub holds-own : (s o : ℕ) (e : Event) (past : List Event) → eqb e.session s ≡ true →
+    holds s o (e ∷ past) ≡ holds_after (deed_of e) o (is_open s past) (holds s o past)
 holds-own s o e past own = cond-true (eqb e.session s) (holds_after (deed_of e) o (is_open s past) (holds s o past)) (holds s o past) own
 
 pub holds-other : (s o : ℕ) (e : Event) (past : List Event) → eqb e.session s ≡ false → holds s o (e ∷ past) ≡ holds s o past
-holds-other s o e past other = cond-false (eqb e.session s) (holds_after (deed_of e) o (is_open s past) (holds s o past)) (holds s o past) other
+holds-other s o e past other = cond-false (eqb e.session s)
+    (holds_after (deed_of e) o (is_open s past) (holds s o past)) (holds s o past) other
 
 held_open : (a h : Bool) (p : Bool) → ((p && a) || h) ≡ true → (h ≡ true → a ≡ true) → a ≡ true
 held_open a h p held before = elim (or_cases (p && a) h held) [ inl new ↦ (and_parts p a new).1 | inr old ↦ before old ]
@@ -85,10 +90,12 @@ is_some-some None f h = h
 is_some-some (Some x) f h = refl
 
 -- one deed of the session itself
-own_deed : (d : Deed) (o : ℕ) (acts : Option (List Act)) (h : Bool) → (h ≡ true → is_some acts ≡ true) → holds_after d o (is_some acts) h ≡ true → is_some (acts_after d acts) ≡ true
+own_deed : (d : Deed) (o : ℕ) (acts : Option (List Act)) (h : Bool) → (h ≡ true → is_some acts ≡ true) →
+    holds_after d o (is_some acts) h ≡ true → is_some (acts_after d acts) ≡ true
 own_deed Opens o None h before held = refl
 own_deed Opens o (Some acts) h before held = refl
-own_deed (Does p act) o acts h before held = is_some-some acts (λ so_far. so_far ++ act ∷ []) (held_open (is_some acts) h (eqb p o) held before)
+own_deed (Does p act) o acts h before held =
+    is_some-some acts (λ so_far. so_far ++ act ∷ []) (held_open (is_some acts) h (eqb p o) held before)
 own_deed (Takes p) o acts h before held = held_open (is_some acts) h (eqb p o) held before
 own_deed (Closes committed) o acts h before held = held
 own_deed Nothing o acts h before held = before held
@@ -97,6 +104,8 @@ pub holds_is_open : (s o : ℕ) (past : List Event) → holds s o past ≡ true 
 holds_is_open s o [] held = held
 holds_is_open s o (e ∷ past) held =
     elim (cases_Bool (eqb e.session s)) [
-      | inl own ↦ ap is_some (opened-own s e past own) ∙ own_deed (deed_of e) o (opened s past) (holds s o past) (holds_is_open s o past) (sym (holds-own s o e past own) ∙ held)
+      | inl own ↦ ap is_some (opened-own s e past own)
+          ∙ own_deed (deed_of e) o (opened s past) (holds s o past) (holds_is_open s o past)
+          (sym (holds-own s o e past own) ∙ held)
       | inr other ↦ ap is_some (opened-other s e past other) ∙ holds_is_open s o past (sym (holds-other s o e past other) ∙ held)
     ]

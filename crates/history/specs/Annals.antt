@@ -8,8 +8,8 @@ use Rattle.history.specs.Serial.{RightAt, replayed}
 abbrev pub after_entry : Plain → End → Plain
 after_entry x e = if e.committed then replayed x e.acts else x
 
--- The acts of each entry have the replies that the object gives after the committed entries before it, and the
--- object goes from x to y.
+-- The acts of each entry have the replies that the object gives after the committed entries
+-- before it, and the object goes from x to y.
 abbrev pub Replays : Plain → List End → Plain → Type 0
 Replays x [] y = y ≡ x
 Replays x (e ∷ ends) y = RightAt x e.acts × Replays (after_entry x e) ends y

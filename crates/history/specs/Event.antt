@@ -1,7 +1,7 @@
 -- A line that was answered, and what it was: the one place where commands meet replies.
 --
--- All that is said of a history goes by the deeds of its events. A list of events has the newest first, since each
--- event is judged by those before it.
+-- All that is said of a history goes by the deeds of its events. A list of events has the newest
+-- first, since each event is judged by those before it.
 use Rattle.std.specs.Prelude.{ℕ, Bool, true, false}
 use Rattle.std.specs.Option.{option_map_or}
 use Rattle.eos_ops.specs.declared.act.Act.{Act}

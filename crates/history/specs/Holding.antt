@@ -1,9 +1,11 @@
 -- Which objects the open transactions hold.
-use Rattle.std.specs.Prelude.{ℕ, zero, suc, ◌+◌, List, [], ◌∷◌, Bool, false, not, ◌&&◌, ◌||◌, ◌==◌, if◌then◌else◌}
+use Rattle.std.specs.Prelude.{ℕ, zero, suc, ◌+◌, List, [], ◌∷◌, Bool, false, not, ◌&&◌, ◌||◌}
+use Rattle.std.specs.Prelude.{◌==◌, if◌then◌else◌}
 use Rattle.history.specs.Event.{Event, Deed, Opens, Does, Takes, Closes, Nothing, deed_of}
 use Rattle.history.specs.Transactions.{is_open}
 
--- whether o is held after a deed of the session, which has a transaction open or not, and held o before or not
+-- whether o is held after a deed of the session, which has a transaction open or not, and held o
+-- before or not
 abbrev pub holds_after : Deed → ℕ → Bool → Bool → Bool
 holds_after Opens o active held = held
 holds_after (Does p act) o active held = ((p == o) && active) || held
@@ -11,11 +13,12 @@ holds_after (Takes p) o active held = ((p == o) && active) || held
 holds_after (Closes committed) o active held = false
 holds_after Nothing o active held = held
 
--- In the open transaction of s a command on o was answered by the object, or by want of space or of the device.
--- A command that is answered `memory`, or refused, takes nothing.
+-- Session s has o in its open transaction: the object answered one of its commands there, or had
+-- no space or no device to do so. A command that is answered `memory`, or refused, takes nothing.
 abbrev pub holds : ℕ → ℕ → List Event → Bool
 holds s o [] = false
-holds s o (e ∷ past) = if e.session == s then holds_after (deed_of e) o (is_open s past) (holds s o past) else holds s o past
+holds s o (e ∷ past) = if e.session == s then holds_after (deed_of e) o (is_open s past)
+    (holds s o past) else holds s o past
 
 -- at how many numbers below n the test is true
 abbrev pub count_below : ℕ → (ℕ → Bool) → ℕ

@@ -1,5 +1,7 @@
--- Ends that run one after the other, over whole databases and at one object. No locks, no versions, no pages.
-use Rattle.std.specs.Prelude.{◌≡◌, ℕ, ◌<◌, List, [], ◌∷◌, Bool, false, ◌==◌, Option, Some, None, length, slice_index_or, slice_set, IsSomeAnd, if◌then◌else◌}
+-- Ends that run one after the other, over whole databases and at one object. No locks, no
+-- versions, no pages.
+use Rattle.std.specs.Prelude.{◌≡◌, ℕ, ◌<◌, List, [], ◌∷◌, Bool, false, ◌==◌, Option, Some, None}
+use Rattle.std.specs.Prelude.{length, slice_index_or, slice_set, IsSomeAnd, if◌then◌else◌}
 use Rattle.std.specs.List.{filter}
 use Rattle.std.specs.Option.{option_map_or}
 use Rattle.eos_ops.specs.declared.act.Act.{Act}
@@ -14,11 +16,13 @@ object_at db o = slice_index_or db o Absent
 
 -- the act is on an object of the database, and has just the reply of that object
 abbrev pub IsRight : List Plain → Act → Type 0
-IsRight db a = IsSomeAnd (object_of a.command) (λ o. (o < length db) × (reply_in a.command (object_at db o) ≡ a.reply))
+IsRight db a = IsSomeAnd (object_of a.command)
+    (λ o. (o < length db) × (reply_in a.command (object_at db o) ≡ a.reply))
 
 -- the database after an act
 abbrev pub after_act : List Plain → Act → List Plain
-after_act db a = option_map_or (λ o. slice_set db o (after_in a.command (object_at db o))) (object_of a.command) db
+after_act db a = option_map_or (λ o. slice_set db o (after_in a.command (object_at db o)))
+    (object_of a.command) db
 
 -- the acts, one after the other, each have the reply that they get there
 abbrev pub RightActs : List Plain → List Act → Type 0
@@ -33,7 +37,8 @@ after_acts db (a ∷ acts) = after_acts (after_act db a) acts
 abbrev pub after_end : List Plain → Ended → List Plain
 after_end db e = if e.committed then after_acts db e.acts else db
 
--- The ends run one after the other from db, each act gives just the reply that it has, and the last database is db2.
+-- The ends run one after the other from db, each act gives just the reply that it has, and the
+-- last database is db2.
 abbrev pub Serial : List Plain → List Ended → List Plain → Type 0
 Serial db [] db2 = db2 ≡ db
 Serial db (e ∷ ends) db2 = RightActs db e.acts × Serial (after_end db e) ends db2

@@ -9,7 +9,8 @@ ghost use Rattle.history.specs.Transactions.{Ended, is_open};
 
 /// The ends and the first database leave no choice for the last one.
 pub fn ends_determine_the_database()
-    ensures { (db left right : List Plain) (ends : List Ended) → Serial db ends left → Serial db ends right → left ≡ right }
+    ensures { (db left right : List Plain) (ends : List Ended) → Serial db ends left →
+        Serial db ends right → left ≡ right }
 {}
 
 /// Only a session with an open transaction holds anything.

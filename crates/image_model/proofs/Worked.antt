@@ -1,5 +1,5 @@
--- A worked image of a small store: 256 bytes a page, one space of 16 pages from page 3 on, threshold 2. Object 0
--- has the three bytes `ABC` on page 3, and its node on page 4. Seven damaged images, each with its refusal.
+-- A worked image of a small store: 256 bytes a page, one space of 16 pages from page 3 on, threshold 2. Object 0 has
+-- the three bytes `ABC` on page 3, and its node on page 4. Seven damaged images, each with its refusal.
 use Rattle.std.proofs.Common.{◌≡◌, ℕ, refl, Some, None, List, [], ◌∷◌, ◌++◌, replicate, take}
 use Rattle.geometry_model.specs.Numbers.{Numbers, is_in_range}
 use Rattle.geometry_model.specs.Pages.{place}
@@ -18,7 +18,8 @@ small = record { page = 256; order = 4; spaces = 1; catalog = 1; threshold = 2 }
 
 -- the superblock: EOSBUDDY, version 2, 256 bytes a page, order 4, kind 0, one space, one catalog page, threshold 2
 abbrev super : ℕ → List ℕ
-super version = 69 ∷ 79 ∷ 83 ∷ 66 ∷ 85 ∷ 68 ∷ 68 ∷ 89 ∷ 0 ∷ 0 ∷ 0 ∷ version ∷ 0 ∷ 0 ∷ 1 ∷ 0 ∷ 4 ∷ 0 ∷ 0 ∷ 1 ∷ 0 ∷ 1 ∷ 0 ∷ 2 ∷ replicate 232 0
+super version = 69 ∷ 79 ∷ 83 ∷ 66 ∷ 85 ∷ 68 ∷ 68 ∷ 89 ∷ 0 ∷ 0 ∷ 0 ∷ version ∷ 0 ∷ 0 ∷ 1 ∷ 0 ∷ 4 ∷ 0 ∷ 0 ∷ 1 ∷ 0 ∷ 1
+    ∷ 0 ∷ 2 ∷ replicate 232 0
 
 -- the entry of object 0: present, height 1, its threshold, root 4, length 3
 abbrev entry : ℕ → List ℕ

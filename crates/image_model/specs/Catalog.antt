@@ -1,19 +1,12 @@
 -- The catalog: an entry of 16 bytes for each object, on the catalog pages read one after the other.
-use Rattle.std.specs.Prelude.{ℕ, ◌+◌, ◌*◌, Bool, true, ◌&&◌, Option, Some, None, List, ◌∷◌, ◌++◌, take, drop, replicate, nat_eq, nat_le, nat_lt, slice_index, if◌then◌else◌}
+use Rattle.std.specs.Prelude.{ℕ, ◌+◌, ◌*◌, Bool, true, ◌&&◌, Option, Some, None, List, ◌∷◌, ◌++◌}
+use Rattle.std.specs.Prelude.{take, drop, replicate, nat_eq, nat_le, nat_lt, slice_index}
+use Rattle.std.specs.Prelude.{if◌then◌else◌}
 use Rattle.std.specs.Int.{w16, w32, w64, to_be_bytes, from_be_bytes}
 use Rattle.std.specs.Str.{bytes_eq}
 use Rattle.geometry_model.specs.Numbers.{Numbers, space_pages}
 use Rattle.tree_model.specs.declared.tree.Root.{Root}
-
--- what the catalog says of a present object: its root, and from how many pages on a segment of it may stand
--- beside a smaller one
-pub record Present : Type 0 where
-  pub root : Root
-  pub threshold : ℕ
-
--- an entry is none for an absent object
-abbrev pub Entry : Type 0
-Entry = Option Present
+use Rattle.tree_pages.specs.Entry.{Present, Entry}
 
 -- the bytes of an entry. Version 1 keeps no threshold
 unfoldable pub entry_bytes : ℕ → Entry → List ℕ
@@ -25,7 +18,8 @@ entry_bytes version (Some present) =
 -- an object of height 0 has root 0 and length 0, another one a byte or more
 abbrev pub is_root : Root → Bool
 is_root root =
-    if nat_eq root.height 0 then nat_eq root.page 0 && nat_eq root.length 0 else nat_lt 0 root.length
+    if nat_eq root.height 0 then nat_eq root.page 0 && nat_eq root.length 0 else nat_lt 0
+    root.length
 
 -- a threshold is at most half of a space
 abbrev pub is_threshold : Numbers → ℕ → Bool
@@ -56,4 +50,5 @@ entry_at n bytes o = take 16 (drop (n.page + 16 * o) bytes)
 -- are these bytes an entry?
 abbrev pub has_entry : Numbers → ℕ → List ℕ → Bool
 has_entry n version bytes =
-    bytes_eq bytes (entry_bytes version (entry_in n version bytes)) && is_entry n (entry_in n version bytes)
+    bytes_eq bytes (entry_bytes version (entry_in n version bytes)) && is_entry n
+    (entry_in n version bytes)

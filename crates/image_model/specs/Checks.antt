@@ -1,6 +1,9 @@
--- The checks of an opening in their order: the first one that fails names the refusal. A tree is walked from
--- its root, a node before what it names, and its entries from left to right.
-use Rattle.std.specs.Prelude.{ℕ, zero, suc, ◌+◌, ◌*◌, ◌/◌, Bool, true, false, ◌&&◌, ◌||◌, not, Option, Some, None, List, [], ◌∷◌, length, nat_eq, nat_le, if◌then◌else◌}
+-- The checks of an opening in their order: the first one that fails names the refusal. The walk
+-- of a tree is depth first: it begins at the root and comes to each node before what stands below
+-- it.
+use Rattle.std.specs.Prelude.{ℕ, zero, suc, ◌+◌, ◌*◌, ◌/◌, Bool, true, false, ◌&&◌, ◌||◌, not}
+use Rattle.std.specs.Prelude.{Option, Some, None, List, [], ◌∷◌, length, nat_eq, nat_le}
+use Rattle.std.specs.Prelude.{if◌then◌else◌}
 use Rattle.std.specs.List.{range_with_len, list_any, list_all}
 use Rattle.std.specs.Str.{bytes_eq}
 use Rattle.geometry_model.specs.Numbers.{Numbers, pages, objects, space_pages, fan_out}
@@ -9,10 +12,12 @@ use Rattle.block_model.specs.Block.{has_page}
 use Rattle.tree_model.specs.declared.entry.Pair.{Pair}
 use Rattle.tree_model.specs.Node.{node_bytes, node_in, room_of}
 use Rattle.tree_model.specs.Tree.{page_count, bytes_of, root_least}
-use Rattle.image_model.specs.Super.{page_in, version_in, numbers_in, has_mark, is_version, has_numbers}
+use Rattle.tree_pages.specs.Entry.{Entry}
+use Rattle.image_model.specs.Super.{image_page, version_in, numbers_in, has_mark, is_version}
+use Rattle.image_model.specs.Super.{has_numbers}
 use Rattle.image_model.specs.Directory.{is_directory}
-use Rattle.image_model.specs.Catalog.{Entry, entry_at, has_entry}
-use Rattle.image_model.specs.Image.{free_of_space, object_in}
+use Rattle.image_model.specs.Catalog.{entry_at, has_entry}
+use Rattle.image_model.specs.Image.{free_of_space, object_entry}
 
 -- why bytes are no image
 pub data Refusal : Type 0 where
@@ -39,9 +44,9 @@ pub data Checked : Type 0 where
   Failed : (refusal : Refusal) → Checked
 
 -- further checks where none failed so far
-abbrev pub and_then : Checked → (Walk → Checked) → Checked
-and_then (Passed walk) next = next walk
-and_then (Failed refusal) next = Failed refusal
+abbrev pub then_check : Checked → (Walk → Checked) → Checked
+then_check (Passed walk) next = next walk
+then_check (Failed refusal) next = Failed refusal
 
 abbrev pub check : Bool → Refusal → Walk → Checked
 check holds refusal walk = if holds then Passed walk else Failed refusal
@@ -49,7 +54,7 @@ check holds refusal walk = if holds then Passed walk else Failed refusal
 -- checks of one item after another
 abbrev pub each : {A : Type 0} → (A → Walk → Checked) → List A → Walk → Checked
 each step [] walk = Passed walk
-each step (item ∷ rest) walk = and_then (step item walk) (each step rest)
+each step (item ∷ rest) walk = then_check (step item walk) (each step rest)
 
 -- is a data page free in its directory?
 abbrev pub is_free_at : Numbers → List ℕ → Option (ℕ × ℕ) → Bool
@@ -65,8 +70,9 @@ is_met walk page = list_any (nat_eq page) walk.met
 -- the page wasn't met before, and isn't free; now it is met
 abbrev pub meet : Numbers → List ℕ → ℕ → Walk → Checked
 meet n bytes page walk =
-    and_then (check (not (is_met walk page)) (PageTwice page) walk) (λ same.
-    check (not (is_free_page n bytes page)) (PageFree page) (record { met = page ∷ walk.met; before = walk.before }))
+    then_check (check (not (is_met walk page)) (PageTwice page) walk) (λ same.
+    check (not (is_free_page n bytes page)) (PageFree page)
+    (record { met = page ∷ walk.met; before = walk.before }))
 
 -- does the pair stand for some bytes?
 abbrev pub is_some_bytes : Pair → Bool
@@ -96,30 +102,37 @@ is_segment n pair =
 abbrev pub fits_after : Numbers → ℕ → Option Pair → Pair → Bool
 fits_after n threshold None pair = true
 fits_after n threshold (Some before) pair =
-    nat_le threshold (page_count n.page before.bytes) || nat_le threshold (page_count n.page pair.bytes)
+    nat_le threshold (page_count n.page before.bytes) || nat_le threshold
+    (page_count n.page pair.bytes)
 
 -- the checks of a segment: its size and place, each of its pages, and then its neighbour
 abbrev pub check_segment : Numbers → List ℕ → ℕ → ℕ → Pair → Walk → Checked
 check_segment n bytes o threshold pair walk =
-    and_then (check (is_segment n pair) (BadTree o) walk) (λ sized.
-    and_then (each (meet n bytes) (range_with_len pair.page (page_count n.page pair.bytes)) sized) (λ met.
-    check (fits_after n threshold met.before pair) (BadTree o) (record { met = met.met; before = Some pair })))
+    then_check (check (is_segment n pair) (BadTree o) walk) (λ sized.
+    then_check (each (meet n bytes) (range_with_len pair.page (page_count n.page pair.bytes))
+    sized) (λ met.
+    check (fits_after n threshold met.before pair) (BadTree o)
+    (record { met = met.met; before = Some pair })))
 
--- the checks of a node of this level, and of what it names: each child is walked and then its sum compared
--- with the pair
+-- the checks of a node of this level, and of what it names: each child is walked and then its sum
+-- compared with the pair
 abbrev pub check_node : Numbers → List ℕ → ℕ → ℕ → ℕ → ℕ → ℕ → Walk → Checked
 check_node n bytes o threshold zero least page walk = Failed (BadTree o)
 check_node n bytes o threshold (suc below) least page walk =
-    let node = node_in (page_in n.page bytes page) in
-    and_then (check (is_data_page n page) (BadTree o) walk) (λ placed.
-    and_then (meet n bytes page placed) (λ met.
-    and_then (check (holds_node n.page (page_in n.page bytes page)) (BadNode page) met) (λ held.
-    and_then (check (nat_eq node.level (suc below) && nat_le least (length node.pairs)) (BadTree o) held) (λ filled.
+    let node = node_in (image_page n.page bytes page) in
+    then_check (check (is_data_page n page) (BadTree o) walk) (λ placed.
+    then_check (meet n bytes page placed) (λ met.
+    then_check (check (holds_node n.page (image_page n.page bytes page)) (BadNode page) met)
+    (λ held.
+    then_check (check (nat_eq node.level (suc below) && nat_le least (length node.pairs))
+    (BadTree o) held) (λ filled.
     elim (nat_eq below 0) [
       | true ↦ each (check_segment n bytes o threshold) node.pairs filled
       | false ↦ each (λ pair walk.
-          and_then (check_node n bytes o threshold below (fan_out n / 2) pair.page walk) (λ walked.
-          check (nat_eq (bytes_of (node_in (page_in n.page bytes pair.page)).pairs) pair.bytes) (BadTree o) walked))
+          then_check (check_node n bytes o threshold below (fan_out n / 2) pair.page walk)
+          (λ walked.
+          check (nat_eq (bytes_of (node_in (image_page n.page bytes pair.page)).pairs) pair.bytes)
+          (BadTree o) walked))
           node.pairs filled
     ]))))
 
@@ -130,9 +143,11 @@ check_tree n bytes o (Some present) walk =
     elim (nat_eq present.root.height 0) [
       | true ↦ Passed walk
       | false ↦
-          and_then (check_node n bytes o present.threshold present.root.height (root_least present.root.height)
+          then_check (check_node n bytes o present.threshold present.root.height
+          (root_least present.root.height)
           present.root.page (record { met = walk.met; before = None })) (λ walked.
-          check (nat_eq (bytes_of (node_in (page_in n.page bytes present.root.page)).pairs) present.root.length)
+          check (nat_eq (bytes_of (node_in (image_page n.page bytes present.root.page)).pairs)
+          present.root.length)
           (BadTree o) walked)
     ]
 
@@ -145,22 +160,25 @@ check_space n bytes s walk =
 -- the checks on the store of these numbers
 abbrev pub check_store : Numbers → ℕ → List ℕ → Walk → Checked
 check_store n version bytes walk =
-    and_then (check (nat_le (pages n * n.page) (length bytes)) Short walk) (λ sized.
-    and_then (each (λ s walk. check (is_directory n s (page_in n.page bytes (directory_page n s))) (BadDirectory s) walk)
+    then_check (check (nat_le (pages n * n.page) (length bytes)) Short walk) (λ sized.
+    then_check (each (λ s walk. check
+    (is_directory n s (image_page n.page bytes (directory_page n s))) (BadDirectory s) walk)
     (range_with_len 0 n.spaces) sized) (λ directories.
-    and_then (each (λ o walk. check (has_entry n version (entry_at n bytes o)) (BadCatalog o) walk)
+    then_check (each (λ o walk. check (has_entry n version (entry_at n bytes o))
+    (BadCatalog o) walk)
     (range_with_len 0 (objects n)) directories) (λ entries.
-    and_then (each (λ o walk. check_tree n bytes o (object_in n version bytes o) walk)
+    then_check (each (λ o walk. check_tree n bytes o (object_entry n version bytes o) walk)
     (range_with_len 0 (objects n)) entries) (λ trees.
     each (check_space n bytes) (range_with_len 0 n.spaces) trees))))
 
 -- all checks in their order
 abbrev pub check_all : List ℕ → Checked
 check_all bytes =
-    and_then (check (nat_le 256 (length bytes)) Short (record { met = []; before = None })) (λ long.
-    and_then (check (has_mark bytes) BadMagic long) (λ marked.
-    and_then (check (is_version (version_in bytes)) BadVersion marked) (λ known.
-    and_then (check (has_numbers bytes) BadGeometry known) (λ ranged.
+    then_check (check (nat_le 256 (length bytes)) Short (record { met = []; before = None }))
+    (λ long.
+    then_check (check (has_mark bytes) BadMagic long) (λ marked.
+    then_check (check (is_version (version_in bytes)) BadVersion marked) (λ known.
+    then_check (check (has_numbers bytes) BadGeometry known) (λ ranged.
     check_store (numbers_in bytes) (version_in bytes) bytes ranged))))
 
 abbrev pub refusal_of : Checked → Option Refusal

@@ -1,4 +1,5 @@
--- The directory page of a space, read back: the pages that its bitmap has, and whether the page is theirs.
+-- The directory page of a space, read back: the pages that its bitmap has, and whether the page
+-- is theirs.
 use Rattle.std.specs.Prelude.{ℕ, ◌/◌, Bool, List, take, drop}
 use Rattle.std.specs.Str.{bytes_eq}
 use Rattle.geometry_model.specs.Numbers.{Numbers, space_pages}

@@ -1,13 +1,14 @@
--- The superblock, the first 256 bytes of an image: mark, version, and the numbers of the store. Numbers of
--- several bytes have the highest first, here and on every page.
-use Rattle.std.specs.Prelude.{◌≡◌, ℕ, ◌*◌, Bool, ◌&&◌, ◌||◌, List, ◌∷◌, ◌++◌, take, drop, replicate, codes, nat_eq, slice_index, IsTrue}
+-- The superblock, the first 256 bytes of an image: mark, version, and the numbers of the store.
+-- Numbers of several bytes have the highest first, here and on every page.
+use Rattle.std.specs.Prelude.{◌≡◌, ℕ, ◌*◌, Bool, ◌&&◌, ◌||◌, List, ◌∷◌, ◌++◌, take, drop}
+use Rattle.std.specs.Prelude.{replicate, codes, nat_eq, slice_index, IsTrue}
 use Rattle.std.specs.Int.{w16, w32, to_be_bytes, from_be_bytes}
 use Rattle.std.specs.Str.{bytes_eq}
 use Rattle.geometry_model.specs.Numbers.{Numbers, IsInRange, is_in_range}
 
 -- the bytes of page number `page`
-abbrev pub page_in : ℕ → List ℕ → ℕ → List ℕ
-page_in size bytes page = take size (drop (page * size) bytes)
+abbrev pub image_page : ℕ → List ℕ → ℕ → List ℕ
+image_page size bytes page = take size (drop (page * size) bytes)
 
 abbrev pub mark : List ℕ
 mark = codes "EOSBUDDY"
@@ -20,7 +21,8 @@ is_version version = nat_eq version 1 || nat_eq version 2
 unfoldable pub super_bytes : ℕ → Numbers → List ℕ
 super_bytes version n =
     mark ++ (to_be_bytes w32 version ++ (to_be_bytes w32 n.page ++ (n.order ∷ 0 ∷ (
-    to_be_bytes w16 n.spaces ++ (to_be_bytes w16 n.catalog ++ (to_be_bytes w16 n.threshold ++ replicate 232 0))))))
+    to_be_bytes w16 n.spaces ++ (to_be_bytes w16 n.catalog
+    ++ (to_be_bytes w16 n.threshold ++ replicate 232 0))))))
 
 -- the version that stands there, and the numbers
 abbrev pub version_in : List ℕ → ℕ

@@ -1,5 +1,7 @@
 -- The runs of a part, halved where it must be: they have its pages together, and each the threshold's.
-use Rattle.std.proofs.Common.{◌≡◌, ℕ, zero, suc, ◌+◌, ◌-◌, ◌*◌, ◌/◌, ◌<◌, ◌≤◌, Bool, true, false, List, [], ◌∷◌, ◌++◌, refl, sym, ap, subst, arith, ◌∙◌, ◌⊎◌, inl, inr, Option, Some, None, length, nat_lt}
+use Rattle.std.proofs.Common.{◌≡◌, ℕ, zero, suc, ◌+◌, ◌-◌, ◌*◌, ◌/◌, ◌<◌, ◌≤◌, Bool, true, false, List, [], ◌∷◌}
+use Rattle.std.proofs.Common.{◌++◌, refl, sym, ap, subst, arith, ◌∙◌, ◌⊎◌, inl, inr, Option, Some, None, length}
+use Rattle.std.proofs.Common.{nat_lt}
 use Rattle.std.proofs.lemmas.Bool.{ltb-false}
 use Rattle.geometry_model.specs.Numbers.{Numbers}
 use Rattle.geometry_model.specs.Pages.{data_page}
@@ -66,7 +68,8 @@ cut_got steps n start threshold pages spaces left runs got =
     elim (answer_cases (halved steps n start threshold ((pages + 1) / 2) spaces)) [
       | inr refused ↦ absurd (no_grant refused.0 runs left (rw refused.1 at got))
       | inl one ↦
-          let after : and_then (halved steps n start threshold (pages / 2) one.1) (λ second more. Got (one.0 ++ second) more) ≡ Got runs left =
+          let after : and_then (halved steps n start threshold (pages / 2) one.1)
+          (λ second more. Got (one.0 ++ second) more) ≡ Got runs left =
           rw one.2 at got in
           elim (answer_cases (halved steps n start threshold (pages / 2) one.1)) [
             | inr refused ↦ absurd (no_grant refused.0 runs left (rw refused.1 at after))

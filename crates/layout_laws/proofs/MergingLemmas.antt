@@ -1,5 +1,5 @@
--- Merging keeps the bytes, leaves no two small neighbours, and is what merging the leftmost two again and
--- again gives.
+-- Merging keeps the bytes, leaves no two small neighbours, and is what merging the leftmost two again and again
+-- gives.
 use Rattle.std.proofs.Common.{◌≡◌, ℕ, ◌+◌, Bool, true, false, ◌&&◌, List, [], ◌∷◌, refl, sym, ap, subst, arith, ◌⊎◌, inl, inr, ◌∙◌}
 use Rattle.layout_model.specs.declared.part.Part.{Part}
 use Rattle.layout_model.specs.declared.part.Part.TheVariants.{Keep, Make}
@@ -13,12 +13,14 @@ test_cases true = inl refl
 test_cases false = inr refl
 
 -- two small neighbours are merged
-pub pack_from-merges : (size least : ℕ) (part next : Part) (rest : List Part) → (is_small size least part && is_small size least next) ≡ true →
+pub pack_from-merges : (size least : ℕ) (part next : Part) (rest : List Part) →
+    (is_small size least part && is_small size least next) ≡ true →
     pack_from size least part (next ∷ rest) ≡ pack_from size least (Make (part_bytes part + part_bytes next)) rest
 pack_from-merges size least part next rest both = rw (both, pack_from)
 
 -- others aren't
-pub pack_from-keeps : (size least : ℕ) (part next : Part) (rest : List Part) → (is_small size least part && is_small size least next) ≡ false →
+pub pack_from-keeps : (size least : ℕ) (part next : Part) (rest : List Part) →
+    (is_small size least part && is_small size least next) ≡ false →
     pack_from size least part (next ∷ rest) ≡ part ∷ pack_from size least next rest
 pack_from-keeps size least part next rest both = rw (both, pack_from)
 
@@ -79,7 +81,8 @@ pack_from-apart size least part (next ∷ rest) =
             | inl small ↦
                 let large = large-next (is_small size least part) (is_small size least next) small both in
                 let front = pack_from-large size least next rest large in
-                let apart : AreApart size least (next ∷ front.0) = subst (AreApart size least) front.1 (pack_from-apart size least next rest) in
+                let apart : AreApart size least (next ∷ front.0) =
+                subst (AreApart size least) front.1 (pack_from-apart size least next rest) in
                 let P : List Part → Type 0 = λ parts. AreApart size least (part ∷ parts) in
                 subst P (sym front.1) (both, apart)
           ])

@@ -5,8 +5,8 @@ use Rattle.layout_model.specs.Grants.{Spaces, Answer}
 use Rattle.layout_model.specs.Grants.Answer.{Got}
 
 -- runs that were granted, with the pages that are free after them
-abbrev pub got : List Extent → Spaces → Answer (List Extent)
-got runs left = Got runs left
+abbrev pub got_runs : List Extent → Spaces → Answer (List Extent)
+got_runs runs left = Got runs left
 
 -- the pages of all runs
 abbrev pub runs_pages : List Extent → ℕ

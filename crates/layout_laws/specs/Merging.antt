@@ -14,4 +14,5 @@ abbrev pub AreApart : ℕ → ℕ → List Part → Type 0
 AreApart size least [] = Unit {0}
 AreApart size least (part ∷ []) = Unit {0}
 AreApart size least (part ∷ next ∷ rest) =
-    ((is_small size least part && is_small size least next) ≡ false) × AreApart size least (next ∷ rest)
+    ((is_small size least part && is_small size least next) ≡ false)
+    × AreApart size least (next ∷ rest)

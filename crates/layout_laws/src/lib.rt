@@ -1,8 +1,8 @@
-//! Laws on the layout of an edit: what merging keeps and where it ends, what the halves of a part are, and
-//! that the entries of the new tree are a list splice and its levels name each other.
+//! Laws on the layout of an edit: what merging keeps and where it ends, what the halves of a part
+//! are, and that the entries of the new tree are a list splice and its levels name each other.
 //!
-//! Each law is a function with no argument and no code, whose clause is the law; the lemmas that crates
-//! above cite stand in `proofs/`.
+//! Each law is a function with no argument and no code, whose clause is the law; the lemmas that
+//! crates above cite stand in `proofs/`.
 #![tactic(auto)]
 
 mod halving;

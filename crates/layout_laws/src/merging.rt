@@ -7,7 +7,8 @@ ghost use Rattle.layout_laws.specs.Merging.{parts_bytes, AreApart};
 
 /// Merging keeps the bytes.
 pub fn merging_keeps_bytes()
-    ensures { (size least : ℕ) (parts : List Part) → parts_bytes (pack size least parts) ≡ parts_bytes parts }
+    ensures { (size least : ℕ) (parts : List Part) →
+        parts_bytes (pack size least parts) ≡ parts_bytes parts }
 {}
 
 /// Merging leaves no two small neighbours.

@@ -11,7 +11,7 @@ use Rattle.layout_model.specs.declared.extent.Extent.{Extent}
 use Rattle.layout_model.specs.declared.change.Change.{Change}
 use Rattle.layout_model.specs.Plan.{planned, ask_of}
 use Rattle.layout_model.specs.declared.fit.Fit.TheVariants.{Extend, Follow, Fresh}
-use Rattle.layout_model.specs.Levels.{PageNode, spliced, nodes_of, count_made, sizes_of}
+use Rattle.layout_model.specs.Levels.{PageNode, spliced, nodes_of_levels, count_made, sizes_of}
 use Rattle.layout_model.specs.Grants.Answer.{Got, Refused}
 use Rattle.layout_model.specs.Layout.{Tree, granted, laid}
 
@@ -38,8 +38,8 @@ insert_at at = record { at = at; removed = 0; added = 1; appends = false }
 abbrev append_of : ℕ → ℕ → Change
 append_of at added = record { at = at; removed = 0; added = added; appends = true }
 
--- a byte that is put before the last byte of a page: it and that byte are made, and what is left and right
--- of them is kept
+-- a byte that is put before the last byte of a page: it and that byte are made, and what is left and right of them is
+-- kept
 insert-parts : parts_of 256 4096 (pair 512 3 ∷ []) 255 0 1 ≡ Keep (pair 255 3) ∷ Make 2 ∷ Keep (pair 256 4) ∷ []
 insert-parts = refl
 
@@ -62,12 +62,13 @@ unfolding planned
 insert-plan = refl
 
 -- a delete of a whole segment makes nothing
-delete-plan : planned small 2 (pair 512 3 ∷ pair 512 8 ∷ pair 512 12 ∷ []) 0 (record { at = 512; removed = 512; added = 0; appends = false }) ≡ record {
-  from = 1;
-  count = 1;
-  parts = [];
-  fit = Fresh;
-}
+delete-plan : planned small 2 (pair 512 3 ∷ pair 512 8 ∷ pair 512 12
+    ∷ []) 0 (record { at = 512; removed = 512; added = 0; appends = false }) ≡ record {
+      from = 1;
+      count = 1;
+      parts = [];
+      fit = Fresh;
+    }
 unfolding planned
 delete-plan = refl
 
@@ -90,7 +91,7 @@ abbrev many : ℕ → List Pair
 many count = map (λ i. pair 512 (100 + 2 * i)) (range_with_len 0 count)
 
 -- a full node of 20 entries gets one more: two nodes of 11 and 10 entries under a root
-grows : nodes_of (spliced 20 ((node 5 (many 20) ∷ []) ∷ []) 20 0 (pair 512 140 ∷ []) (40 ∷ 41 ∷ 42 ∷ [])) ≡
+grows : nodes_of_levels (spliced 20 ((node 5 (many 20) ∷ []) ∷ []) 20 0 (pair 512 140 ∷ []) (40 ∷ 41 ∷ 42 ∷ [])) ≡
     (node 40 (take 11 (many 21)) ∷ node 41 (drop 11 (many 21)) ∷ []) ∷
     (node 42 (pair 5632 40 ∷ pair 5120 41 ∷ []) ∷ []) ∷ []
 unfolding spliced
@@ -102,14 +103,14 @@ unfolding spliced
 grows-made = refl
 
 -- the last entry goes again: the other node joins, and one node of 20 entries is the root
-shrinks : nodes_of (spliced 20
+shrinks : nodes_of_levels (spliced 20
     ((node 40 (take 11 (many 21)) ∷ node 41 (drop 11 (many 21)) ∷ []) ∷ (node 42 (pair 5632 40 ∷ pair 5120 41 ∷ []) ∷ []) ∷ [])
     20 1 [] (50 ∷ [])) ≡ (node 50 (many 20) ∷ []) ∷ []
 unfolding spliced
 shrinks = refl
 
 -- nothing is left: the object is empty
-empties : nodes_of (spliced 20 ((node 5 (many 1) ∷ []) ∷ []) 0 1 [] []) ≡ []
+empties : nodes_of_levels (spliced 20 ((node 5 (many 1) ∷ []) ∷ []) 0 1 [] []) ≡ []
 unfolding spliced
 empties = refl
 
@@ -124,8 +125,8 @@ ask-doubles = refl
 ask-limit : ask_of 1 12 16 ≡ 16
 ask-limit = refl
 
--- A page is put behind a segment of one page that has one spare page and is full: the segment grows, on
--- the spare page.
+-- A page is put behind a segment of one page that has one spare page and is full: the segment grows, on the spare
+-- page.
 extends : planned small 2 (pair 256 3 ∷ []) 1 (append_of 256 256) ≡ record {
   from = 0;
   count = 1;
@@ -135,8 +136,7 @@ extends : planned small 2 (pair 256 3 ∷ []) 1 (append_of 256 256) ≡ record {
 unfolding planned
 extends = refl
 
--- A byte is put behind a last page that isn't full. The large segment stays, and the byte stands on the
--- spare page.
+-- A byte is put behind a last page that isn't full. The large segment stays, and the byte stands on the spare page.
 follows : planned small 2 (pair 600 3 ∷ []) 1 (append_of 600 1) ≡ record {
   from = 1;
   count = 0;
@@ -157,6 +157,7 @@ unfolding granted planned spliced place
 halves = refl
 
 -- three pages where no two are free: three is less than twice the threshold and isn't cut
-refuses : granted small 0 (record { levels = []; threshold = 2 }) None (append_of 0 768) ((true ∷ false ∷ true ∷ replicate 13 false) ∷ []) ≡ Refused 3
+refuses : granted small 0 (record { levels = []; threshold = 2 }) None (append_of 0 768)
+    ((true ∷ false ∷ true ∷ replicate 13 false) ∷ []) ≡ Refused 3
 unfolding granted planned spliced place
 refuses = refl

@@ -1,6 +1,8 @@
--- The pages that a store grants: its free pages by space, the first space that has a place, and rows of
--- grants that are all given or refused together.
-use Rattle.std.specs.Prelude.{ℕ, zero, suc, ◌+◌, ◌-◌, ◌*◌, ◌/◌, Bool, true, false, Option, Some, None, List, [], ◌∷◌, ◌++◌, length, nat_lt, slice_index_or, slice_set}
+-- The pages that a store grants: its free pages by space, the first space that has a place, and
+-- rows of grants that are all given or refused together.
+use Rattle.std.specs.Prelude.{ℕ, zero, suc, ◌+◌, ◌-◌, ◌*◌, ◌/◌, Bool, true, false, Option, Some}
+use Rattle.std.specs.Prelude.{None, List, [], ◌∷◌, ◌++◌, length, nat_lt, slice_index_or}
+use Rattle.std.specs.Prelude.{slice_set}
 use Rattle.std.specs.List.{range_with_len}
 use Rattle.geometry_model.specs.Numbers.{Numbers}
 use Rattle.geometry_model.specs.Pages.{data_page}
@@ -36,9 +38,11 @@ spot_in spaces n (s ∷ rest) =
 
 -- the spaces without the n pages at a spot
 abbrev pub without : Spaces → Spot → ℕ → Spaces
-without spaces spot n = slice_set spaces spot.space (with_run (space_at spaces spot.space) spot.at n false)
+without spaces spot n = slice_set spaces spot.space
+    (with_run (space_at spaces spot.space) spot.at n false)
 
--- what is granted, with the pages that are free after it; or the pages that no space had a place for
+-- what is granted, with the pages that are free after it; or the pages that no space had a place
+-- for
 pub data Answer (A : Type 0) : Type 0 where
   Got : (value : A) → (left : Spaces) → Answer A
   Refused : (pages : ℕ) → Answer A
@@ -53,20 +57,22 @@ abbrev pub or_else : {A : Type 0} → Answer A → (ℕ → Answer A) → Answer
 or_else (Got value left) other = Got value left
 or_else (Refused pages) other = other pages
 
--- n pages in the first space, from `start` on and around, that has a place for them
+-- a run of n pages: the spaces are tried in turn, space `start` first and around, and the first
+-- with room gives it
 abbrev pub run_of : Numbers → ℕ → ℕ → Spaces → Answer Extent
 run_of n start pages spaces =
     elim (spot_in spaces pages (around start (length spaces))) [
-      | Some spot ↦ Got (record { page = data_page n spot.space spot.at; pages = pages }) (without spaces spot pages)
+      | Some spot ↦ Got (record { page = data_page n spot.space spot.at; pages = pages })
+          (without spaces spot pages)
       | None ↦ Refused pages
     ]
 
 abbrev pub only : Extent → Spaces → Answer (List Extent)
 only run left = Got (run ∷ []) left
 
--- The runs of a part of so many pages: one, or where no space has a place for it those of its first half,
--- the larger one, and of its other half, as long as it has twice the threshold or more. (`steps` bounds the
--- depth of halving; the number of pages is enough.)
+-- The runs of a part of so many pages: one, or where no space has a place for it those of its
+-- first half, the larger one, and of its other half, as long as it has twice the threshold or
+-- more. (`steps` bounds the depth of halving; the number of pages is enough.)
 abbrev pub halved : ℕ → Numbers → ℕ → ℕ → ℕ → Spaces → Answer (List Extent)
 halved zero n start threshold pages spaces = Refused pages
 halved (suc steps) n start threshold pages spaces =
@@ -75,7 +81,8 @@ halved (suc steps) n start threshold pages spaces =
       | true ↦ Refused pages
       | false ↦
           and_then (halved steps n start threshold ((pages + 1) / 2) spaces) (λ first left.
-          and_then (halved steps n start threshold (pages / 2) left) (λ second rest. Got (first ++ second) rest))
+          and_then (halved steps n start threshold (pages / 2) left)
+          (λ second rest. Got (first ++ second) rest))
     ])
 
 -- the runs of one part: the wish as one run, or else the need, halved where it must be

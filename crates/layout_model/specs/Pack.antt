@@ -1,5 +1,5 @@
--- Small neighbours are merged: while two neighbours both have fewer pages than the threshold, the leftmost
--- such two become one new part.
+-- Small neighbours are merged: while two neighbours both have fewer pages than the threshold, the
+-- leftmost such two become one new part.
 use Rattle.std.specs.Prelude.{ℕ, ◌+◌, ◌≤◌, Bool, true, false, ◌&&◌, List, [], ◌∷◌, nat_lt, ◌⊎◌}
 use Rattle.tree_model.specs.declared.entry.Pair.{Pair}
 use Rattle.tree_model.specs.Tree.{page_count}
@@ -11,8 +11,8 @@ use Rattle.layout_model.specs.Parts.{part_bytes}
 abbrev pub is_small : ℕ → ℕ → Part → Bool
 is_small size least part = nat_lt (page_count size (part_bytes part)) least
 
--- the parts from one in hand on, merged. Left of it nothing is left to merge: where it is small, what
--- stands before it isn't
+-- the parts from one in hand on, merged. Left of it nothing is left to merge: where it is small,
+-- what stands before it isn't
 abbrev pub pack_from : ℕ → ℕ → Part → List Part → List Part
 pack_from size least part [] = part ∷ []
 pack_from size least part (next ∷ rest) =
@@ -31,4 +31,5 @@ abbrev pub Packed : ℕ → ℕ → List Pair → Type 0
 Packed size least [] = Unit {0}
 Packed size least (p ∷ []) = Unit {0}
 Packed size least (p ∷ q ∷ rest) =
-    ((least ≤ page_count size p.bytes) ⊎ (least ≤ page_count size q.bytes)) × Packed size least (q ∷ rest)
+    ((least ≤ page_count size p.bytes) ⊎ (least ≤ page_count size q.bytes))
+    × Packed size least (q ∷ rest)

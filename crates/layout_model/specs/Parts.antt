@@ -1,7 +1,8 @@
--- The parts of an object when `removed` bytes at place `at` make way for new ones: what is kept of the
--- segments that the two borders lie in, what is made anew, and the segments next to these. What is merged
--- of them is left to Pack.antt.
-use Rattle.std.specs.Prelude.{ℕ, suc, ◌+◌, ◌-◌, ◌*◌, ◌/◌, ◌%◌, min, List, [], ◌∷◌, ◌++◌, map, take, drop, replicate, nat_eq, nat_le, nat_lt, if◌then◌else◌}
+-- The parts of an object when `removed` bytes at place `at` make way for new ones: what is kept
+-- of the segments that the two borders lie in, what is made anew, and the segments next to these.
+-- What is merged of them is left to Pack.antt.
+use Rattle.std.specs.Prelude.{ℕ, suc, ◌+◌, ◌-◌, ◌*◌, ◌/◌, ◌%◌, min, List, [], ◌∷◌, ◌++◌, map}
+use Rattle.std.specs.Prelude.{take, drop, replicate, nat_eq, nat_le, nat_lt, if◌then◌else◌}
 use Rattle.tree_model.specs.declared.entry.Pair.{Pair}
 use Rattle.tree_model.specs.Tree.{page_count}
 use Rattle.layout_model.specs.declared.part.Part.{Part}
@@ -13,22 +14,22 @@ part_bytes (Keep pair) = pair.bytes
 part_bytes (Make bytes) = bytes
 
 -- how many entries end at byte `at` or before it
-abbrev pub ended : ℕ → List Pair → ℕ
-ended at [] = 0
-ended at (p ∷ ps) = if nat_le p.bytes at then suc (ended (at - p.bytes) ps) else 0
+abbrev pub count_ended : ℕ → List Pair → ℕ
+count_ended at [] = 0
+count_ended at (p ∷ ps) = if nat_le p.bytes at then suc (count_ended (at - p.bytes) ps) else 0
 
 -- how many entries begin before byte `at`
-abbrev pub begun : ℕ → List Pair → ℕ
-begun at [] = 0
-begun at (p ∷ ps) = if nat_eq at 0 then 0 else suc (begun (at - p.bytes) ps)
+abbrev pub count_begun : ℕ → List Pair → ℕ
+count_begun at [] = 0
+count_begun at (p ∷ ps) = if nat_eq at 0 then 0 else suc (count_begun (at - p.bytes) ps)
 
 -- the last entry that ends at `at` or before it, where there is one
 abbrev pub one_before : ℕ → List Pair → List Pair
-one_before at entries = drop (ended at entries - 1) (take (ended at entries) entries)
+one_before at entries = drop (count_ended at entries - 1) (take (count_ended at entries) entries)
 
 -- the first entry that begins at `at` or after it, where there is one
 abbrev pub one_after : ℕ → List Pair → List Pair
-one_after at entries = take 1 (drop (begun at entries) entries)
+one_after at entries = take 1 (drop (count_begun at entries) entries)
 
 -- the bytes before `at` of the entry that it lies strictly inside, on the same first page
 abbrev pub left_of : ℕ → List Pair → List Pair
@@ -64,9 +65,9 @@ abbrev pub pieces : ℕ → ℕ → List ℕ
 pieces most bytes =
     replicate (bytes / most) most ++ (if nat_eq (bytes % most) 0 then [] else bytes % most ∷ [])
 
--- The parts, where a segment has at most `most` bytes: the entry before the place, what is kept left of
--- it, the new bytes with the head of what follows, what is kept right of it, and the entry after it.
--- Entries that lie wholly in what is removed aren't among them.
+-- The parts, where a segment has at most `most` bytes: the entry before the place, what is kept
+-- left of it, the new bytes with the head of what follows, what is kept right of it, and the
+-- entry after it. Entries that lie wholly in what is removed aren't among them.
 abbrev pub parts_of : ℕ → ℕ → List Pair → ℕ → ℕ → ℕ → List Part
 parts_of size most entries at removed added =
     map Keep (one_before at entries ++ left_of at entries)

@@ -1,10 +1,12 @@
--- The plan of a change: which entries are replaced, and by which parts. An append may grow the tail, that
--- is, use the spare pages behind the last segment.
-use Rattle.std.specs.Prelude.{ℕ, ◌+◌, ◌-◌, ◌*◌, ◌%◌, min, max, Bool, true, false, Option, Some, None, List, [], ◌∷◌, length, take, drop, nat_eq, nat_le, if◌then◌else◌}
+-- The plan of a change: which entries are replaced, and by which parts. An append may grow the
+-- tail, that is, use the spare pages behind the last segment.
+use Rattle.std.specs.Prelude.{ℕ, ◌+◌, ◌-◌, ◌*◌, ◌%◌, min, max, Bool, true, false, Option, Some}
+use Rattle.std.specs.Prelude.{None, List, [], ◌∷◌, length, take, drop, nat_eq, nat_le}
+use Rattle.std.specs.Prelude.{if◌then◌else◌}
 use Rattle.geometry_model.specs.Numbers.{Numbers, space_pages}
 use Rattle.tree_model.specs.declared.entry.Pair.{Pair}
 use Rattle.tree_model.specs.Tree.{page_count}
-use Rattle.layout_model.specs.Parts.{parts_of, ended, begun, one_before, one_after}
+use Rattle.layout_model.specs.Parts.{parts_of, count_ended, count_begun, one_before, one_after}
 use Rattle.layout_model.specs.declared.change.Change.{Change}
 use Rattle.layout_model.specs.declared.extent.Extent.{Extent}
 use Rattle.layout_model.specs.declared.fit.Fit.{Fit}
@@ -56,15 +58,16 @@ ends_kept (part ∷ []) = is_kept part
 ends_kept (part ∷ next ∷ rest) = ends_kept (next ∷ rest)
 
 -- the bytes of the parts that are made
-abbrev pub made_bytes : List Part → List ℕ
-made_bytes [] = []
-made_bytes (Keep pair ∷ rest) = made_bytes rest
-made_bytes (Make bytes ∷ rest) = bytes ∷ made_bytes rest
+abbrev pub made_part_bytes : List Part → List ℕ
+made_part_bytes [] = []
+made_part_bytes (Keep pair ∷ rest) = made_part_bytes rest
+made_part_bytes (Make bytes ∷ rest) = bytes ∷ made_part_bytes rest
 
 -- where there is just one made part, an append puts it on the spare pages that have room for it
 abbrev pub fit_made : ℕ → Bool → ℕ → List ℕ → Fit
 fit_made size appends spare [] = Fresh
-fit_made size appends spare (bytes ∷ []) = if appends then fit_of (page_count size bytes) spare false else Fresh
+fit_made size appends spare (bytes ∷ []) =
+    if appends then fit_of (page_count size bytes) spare false else Fresh
 fit_made size appends spare (bytes ∷ more ∷ rest) = Fresh
 
 -- 1 where there is an entry here and it was merged
@@ -72,21 +75,22 @@ abbrev pub merged_one : List Pair → Bool → ℕ
 merged_one [] kept = 0
 merged_one (p ∷ ps) kept = if kept then 0 else 1
 
--- the plan from the merged parts. The entry before the place and the one after it are left out where they
--- weren't merged.
+-- the plan from the merged parts. The entry before the place and the one after it are left out
+-- where they weren't merged.
 abbrev pub plan_packed : ℕ → List Pair → ℕ → Change → List Part → Plan
 plan_packed size entries spare change parts =
     let before = one_before change.at entries in
     let after = one_after (change.at + change.removed) entries in
     let front = length before - merged_one before (begins_kept parts) in
     let back = length after - merged_one after (ends_kept parts) in
-    let from = ended change.at entries - merged_one before (begins_kept parts) in
-    let to = begun (change.at + change.removed) entries + merged_one after (ends_kept parts) in
+    let from = count_ended change.at entries - merged_one before (begins_kept parts) in
+    let to = count_begun (change.at + change.removed) entries + merged_one after
+    (ends_kept parts) in
     record {
       from = from;
       count = to - from;
       parts = take (length parts - (front + back)) (drop front parts);
-      fit = fit_made size change.appends spare (made_bytes parts);
+      fit = fit_made size change.appends spare (made_part_bytes parts);
     }
 
 -- the last entry, and an entry of no byte where there is none
@@ -100,7 +104,11 @@ abbrev pub plan_extended : List Pair → Change → Plan
 plan_extended entries change = record {
   from = length entries - 1;
   count = 1;
-  parts = Keep (record { bytes = (last_entry entries).bytes + change.added; page = (last_entry entries).page }) ∷ [];
+  parts = Keep (record {
+    bytes = (last_entry entries).bytes + change.added;
+    page =
+        (last_entry entries).page;
+  }) ∷ [];
   fit = Extend;
 }
 

@@ -1,11 +1,13 @@
 -- A reply that the machine owes, or may give, makes a deed that may come.
-use Rattle.std.proofs.Common.{◌≡◌, ℕ, zero, suc, ◌<◌, List, [], ◌∷◌, Bool, true, false, cond, Option, Some, None, length, eqb, get_or, refl, sym, ap, subst, ◌∙◌, inl, inr, ◌⊎◌, arith}
+use Rattle.std.proofs.Common.{◌≡◌, ℕ, zero, suc, ◌<◌, List, [], ◌∷◌, Bool, true, false, cond, Option, Some, None}
+use Rattle.std.proofs.Common.{length, eqb, get_or, refl, sym, ap, subst, ◌∙◌, inl, inr, ◌⊎◌, arith}
 use Rattle.std.specs.Prelude.{is_some, nat_le, IfSome}
 use Rattle.std.specs.Option.{option_and_then}
 use Rattle.std.proofs.lemmas.Bool.{cases_Bool, cond-false}
 use Rattle.std.proofs.lemmas.Bool.Decides.{nat_tests}
 use Rattle.eos_ops.specs.declared.command.Command.{Command}
-use Rattle.eos_ops.specs.declared.command.Command.TheVariants.{Begin, Create, Destroy, Length, Read, Append, Insert, Delete, Replace, Commit, Abort, Status}
+use Rattle.eos_ops.specs.declared.command.Command.TheVariants.{Begin, Create, Destroy, Length, Read, Append, Insert}
+use Rattle.eos_ops.specs.declared.command.Command.TheVariants.{Delete, Replace, Commit, Abort, Status}
 use Rattle.eos_ops.specs.declared.limits.TheConstants.{MAX_HELD, LAST_STAMP}
 use Rattle.eos_ops.specs.declared.reply.Reply.{Reply}
 use Rattle.eos_ops.specs.declared.reply.Reply.TheVariants as reply
@@ -83,7 +85,9 @@ seat_refused-session seat Abort o on = refl
 seat_refused-session seat Status o on = refl
 
 seat_refuses : (seat : Seat) (c : Command) → Refuses (seat_refused seat c)
-seat_refuses seat Begin = or_else_refuses (session_refusal seat.active Begin) (cond (eqb seat.stamp LAST_STAMP) (Some reply.Worn) None) (session_refuses seat.active Begin) (cond_refuses (eqb seat.stamp LAST_STAMP) (Some reply.Worn) None refl tt)
+seat_refuses seat Begin = or_else_refuses (session_refusal seat.active Begin)
+    (cond (eqb seat.stamp LAST_STAMP) (Some reply.Worn) None) (session_refuses seat.active Begin)
+    (cond_refuses (eqb seat.stamp LAST_STAMP) (Some reply.Worn) None refl tt)
 seat_refuses seat (Create o t) = session_refuses seat.active (Create o t)
 seat_refuses seat (Destroy o) = session_refuses seat.active (Destroy o)
 seat_refuses seat (Length o) = session_refuses seat.active (Length o)
@@ -112,7 +116,9 @@ chain_refuses m s (Some o) = object_refuses m s o
 pub refused_refuses : (m : Machine) (s : ℕ) (c : Command) → Refuses (refused m s c)
 unfolding refused
 refused_refuses m s c =
-    cond_refuses (is_too_long c) (Some reply.TooLong) _ refl (or_else_refuses (seat_refused (seat_at m s) c) (option_and_then (object_refused m s) (object_of c)) (seat_refuses (seat_at m s) c) (chain_refuses m s (object_of c)))
+    cond_refuses (is_too_long c) (Some reply.TooLong) _ refl (or_else_refuses (seat_refused (seat_at m s) c)
+    (option_and_then (object_refused m s) (object_of c)) (seat_refuses (seat_at m s) c)
+    (chain_refuses m s (object_of c)))
 
 -- a refusal does nothing to an object
 answered_refusal : (o : ℕ) (c : Command) (r : Reply) → is_refusal r ≡ true → answered o c r ≡ Nothing
@@ -193,7 +199,8 @@ pub May-nothing : (m : Machine) (s : ℕ) (d : Deed) → d ≡ Nothing → May m
 May-nothing m s d nothing = subst (May m s) (sym nothing) tt
 
 -- an object's reply may come where the object can be used
-pub may_answered : (m : Machine) (s o : ℕ) (c : Command) (r : Reply) → CanUse m s o → object_of c ≡ Some o → reply_in c (slot_at m o).working ≡ r → May m s (answered o c r)
+pub may_answered : (m : Machine) (s o : ℕ) (c : Command) (r : Reply) → CanUse m s o → object_of c ≡ Some o →
+    reply_in c (slot_at m o).working ≡ r → May m s (answered o c r)
 may_answered m s o c reply.Ok can on same = record { usable = can; object = on; reply = same }
 may_answered m s o c (reply.Length n) can on same = record { usable = can; object = on; reply = same }
 may_answered m s o c (reply.Bytes x) can on same = record { usable = can; object = on; reply = same }
@@ -213,7 +220,8 @@ may_answered m s o c reply.Worn can on same = tt
 may_answered m s o c (reply.Status f l n) can on same = tt
 may_answered m s o c reply.Again can on same = tt
 
-pub may_taken : (m : Machine) (s o : ℕ) (c : Command) (r : Reply) → CanUse m s o → is_taking (answered o c r) ≡ true → May m s (answered o c r)
+pub may_taken : (m : Machine) (s o : ℕ) (c : Command) (r : Reply) → CanUse m s o →
+    is_taking (answered o c r) ≡ true → May m s (answered o c r)
 may_taken m s o c reply.Ok can h = absurd (cc)
 may_taken m s o c (reply.Length n) can h = absurd (cc)
 may_taken m s o c (reply.Bytes x) can h = absurd (cc)
@@ -251,9 +259,15 @@ holder_none (Some t) h = cc
 pub usable_object : (m : Machine) (s o : ℕ) → is_active m s ≡ true → object_refused m s o ≡ None → CanUse m s o
 usable_object m s o active none =
     elim (cases_Bool (is_holder s (slot_at m o).holder)) [
-      | inl held ↦ record { active = active; present = held_present m.slots s o held; free = inr (is_holder-true s (slot_at m o).holder held) }
+      | inl held ↦ record {
+        active = active;
+        present = held_present m.slots s o held;
+        free =
+            inr (is_holder-true s (slot_at m o).holder held);
+      }
       | inr other ↦
-          let first = no_more _ None (nat_le (length m.slots) o) reply.NoObject (sym (cond-false (is_holder s (slot_at m o).holder) None _ other) ∙ none) in
+          let first = no_more _ None (nat_le (length m.slots) o) reply.NoObject
+          (sym (cond-false (is_holder s (slot_at m o).holder) None _ other) ∙ none) in
           let second = no_more _ None (nat_le MAX_HELD (held_by m s)) reply.Full first.1 in
           let third = no_more _ None (is_some (slot_at m o).holder) reply.Busy second.1 in
           record { active = active; present = below first.0; free = inl (holder_none (slot_at m o).holder third.0) }

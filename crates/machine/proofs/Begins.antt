@@ -8,11 +8,10 @@ use Rattle.eos_ops.specs.declared.plain.Plain.{Plain}
 use Rattle.history.specs.Event.{Opens}
 use Rattle.history.specs.Serial.{Serial}
 use Rattle.history.specs.Transactions.{Ended, acts_after}
-use Rattle.machine.specs.Machine.{Slot, Seat, Machine, slot_at, seat_at, is_active, is_holder, database, with_seat}
+use Rattle.machine.specs.Machine.{Slot, Machine, slot_at, is_holder, database}
 use Rattle.machine.specs.Next.{next, CanBegin}
-use Rattle.machine.specs.Sound.{Agrees, Stands, StandsBy, AreInsideOf}
+use Rattle.machine.specs.Sound.{Tracks, Reflects, Stands, StandsBy, AreInsideOf}
 use Rattle.machine.proofs.Changes.{Changes}
-use Rattle.machine.proofs.Places.{seat_at-same, seat_in-other}
 
 pub none_from : (acts : Option (List Act)) → is_some acts ≡ false → acts ≡ None
 none_from None h = refl
@@ -33,26 +32,23 @@ stands_new s o slot idle = subst (λ (b : Bool). StandsBy o (Some []) b slot.com
     no_acts : ◌≡◌ {A = List Act} [] []
     no_acts = refl
 
-pub Agrees-begin : (db : List Plain) (s number : ℕ) (ends ends' : List Ended) (acts acts' : ℕ → Option (List Act)) (holding holding' : ℕ → ℕ → Bool) (m : Machine) → CanBegin m s → Changes Opens s number ends ends' acts acts' holding holding' → Agrees db ends acts holding m → Agrees db ends' acts' holding' (next m s Opens)
-Agrees-begin db s number ends ends' acts acts' holding holding' m can ch v =
-    let none : acts s ≡ None = none_from (acts s) (v.active s ∙ can.idle) in
+pub Reflects-begin : (db : List Plain) (s number : ℕ) (ends ends' : List Ended) (acts acts' : ℕ → Option (List Act))
+    (holding holding' : ℕ → ℕ → Bool) (m : Machine) → CanBegin m s →
+    Changes Opens s number ends ends' acts acts' holding holding' → Tracks acts' holding' (next m s Opens) →
+    Reflects db ends acts holding m → Reflects db ends' acts' holding' (next m s Opens)
+Reflects-begin db s number ends ends' acts acts' holding holding' m can ch tracks v =
+    let none : acts s ≡ None = none_from (acts s) (v.tracks.active s ∙ can.idle) in
     let new : acts' s ≡ Some [] = ch.own ∙ ap (acts_after Opens) none in
-    let seat : Seat = record { active = true; stamp = (seat_at m s).stamp } in
     record {
+      tracks = tracks;
       serial = subst (λ (e : List Ended). Serial db e (database m)) (sym (ch.closes ∙ append-nil ends)) v.serial;
-      active = λ t. elim (cases_eq t s) [
-        | inl same ↦ ap (λ n. is_some (acts' n)) same ∙ ap is_some new ∙ sym (ap (λ n. is_active (with_seat m s seat) n) same ∙ ap (λ (x : Seat). x.active) (seat_at-same m s seat can.session))
-        | inr other ↦ ap is_some (ch.others t other) ∙ v.active t ∙ sym (ap (λ (x : Seat). x.active) (seat_in-other m.seats s t seat other))
-      ];
       stands = λ t o. elim (cases_eq t s) [
-        | inl same ↦ subst (λ n. Stands n o (acts' n) (slot_at m o)) (sym same) (subst (λ (a : Option (List Act)). Stands s o a (slot_at m o)) (sym new) (stands_new s o (slot_at m o) (stands_idle s o (acts s) (slot_at m o) none (v.stands s o))))
+        | inl same ↦ subst (λ n. Stands n o (acts' n) (slot_at m o)) (sym same)
+            (subst (λ (a : Option (List Act)). Stands s o a (slot_at m o)) (sym new)
+            (stands_new s o (slot_at m o) (stands_idle s o (acts s) (slot_at m o) none (v.stands s o))))
         | inr other ↦ subst (λ (a : Option (List Act)). Stands t o a (slot_at m o)) (sym (ch.others t other)) (v.stands t o)
       ];
       rests = v.rests;
-      held = λ t o. elim (cases_eq t s) [
-        | inl same ↦ ap (λ n. holding' n o) same ∙ ch.held_own o ∙ v.held s o ∙ ap (λ n. is_holder n (slot_at m o).holder) (sym same)
-        | inr other ↦ ch.held_others t o other ∙ v.held t o
-      ];
       inside = λ t. elim (cases_eq t s) [
         | inl same ↦ subst (λ n. AreInsideOf (length m.slots) (acts' n)) (sym same) (subst (AreInsideOf (length m.slots)) (sym new) tt)
         | inr other ↦ subst (AreInsideOf (length m.slots)) (sym (ch.others t other)) (v.inside t)

@@ -1,9 +1,11 @@
 pub mod Answering
+pub mod Bare
 pub mod Begins
 pub mod Caused
 pub mod Changes
 pub mod Closing
 pub mod Counting
+pub mod Owing
 pub mod Places
 pub mod Replying
 pub mod Sizes
@@ -11,3 +13,4 @@ pub mod Soundness
 pub mod Stamping
 pub mod Stepping
 pub mod Touches
+pub mod Tracking

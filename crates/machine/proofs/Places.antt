@@ -1,9 +1,11 @@
 -- Slots and seats by their numbers, before and after a write.
-use Rattle.std.proofs.Common.{◌≡◌, ℕ, zero, suc, ◌<◌, ◌≤◌, List, [], ◌∷◌, Bool, true, false, Option, Some, None, length, get_or, set, map, refl, sym, ap, ◌∙◌, inl, inr, ◌⊎◌, arith}
+use Rattle.std.proofs.Common.{◌≡◌, ℕ, zero, suc, ◌<◌, ◌≤◌, List, [], ◌∷◌, Bool, true, false, Option, Some, None}
+use Rattle.std.proofs.Common.{length, get_or, set, map, refl, sym, ap, ◌∙◌, inl, inr, ◌⊎◌, arith}
 use Rattle.std.proofs.lemmas.Bool.{eq-eqb, ne_eqb, eqb-true, cond-true, cond-false}
 use Rattle.std.proofs.lemmas.List.{length-set, get_or-set_same, get_or-set_other}
 use Rattle.history.specs.Serial.{object_at}
-use Rattle.machine.specs.Machine.{Slot, Seat, Machine, no_slot, no_seat, slot_at, seat_in, seat_at, is_active, IsSession, is_holder, database, with_slot, seats_with, with_seat}
+use Rattle.machine.specs.Machine.{Slot, Seat, Machine, no_slot, no_seat, slot_at, seat_in, seat_at, is_active}
+use Rattle.machine.specs.Machine.{IsSession, is_holder, database, with_slot, seats_with, with_seat}
 use Rattle.machine.specs.Next.{settled, released}
 
 pub get_or_map : {A B : Type 0} (f : A → B) (xs : List A) (i : ℕ) (d : A) → get_or (map f xs) i (f d) ≡ f (get_or xs i d)
@@ -26,7 +28,8 @@ slot_at-same m o slot below = get_or-set_same m.slots o slot no_slot below
 pub slot_at-other : (m : Machine) (o p : ℕ) (slot : Slot) → (p ≡ o → ⊥) → slot_at (with_slot m o slot) p ≡ slot_at m p
 slot_at-other m o p slot other = get_or-set_other m.slots o p slot no_slot other
 
-pub database-with_slot : (m : Machine) (o : ℕ) (slot : Slot) → slot.committed ≡ (slot_at m o).committed → database (with_slot m o slot) ≡ database m
+pub database-with_slot : (m : Machine) (o : ℕ) (slot : Slot) → slot.committed ≡ (slot_at m o).committed →
+    database (with_slot m o slot) ≡ database m
 database-with_slot m o slot same = map-set_unseen (λ (x : Slot). x.committed) m.slots o no_slot slot same
 
 seat_in-same : (seats : List Seat) (s : ℕ) (seat : Seat) → 0 < s → s ≤ length seats → seat_in (seats_with seats s seat) s ≡ seat
@@ -79,11 +82,13 @@ free-other s t holder free other =
 pub held-other : (s t : ℕ) (holder : Option ℕ) → is_holder s holder ≡ true → (t ≡ s → ⊥) → is_holder t holder ≡ false
 held-other s t holder held other = ap (is_holder t) (is_holder-true s holder held) ∙ is_holder-other s t other
 
-pub settled-held : (s stamp : ℕ) (committed : Bool) (slot : Slot) → is_holder s slot.holder ≡ true → settled s committed stamp slot ≡ released committed stamp slot
+pub settled-held : (s stamp : ℕ) (committed : Bool) (slot : Slot) → is_holder s slot.holder ≡ true →
+    settled s committed stamp slot ≡ released committed stamp slot
 settled-held s stamp committed slot held = cond-true (is_holder s slot.holder) (released committed stamp slot) slot held
 
 pub settled-other : (s stamp : ℕ) (committed : Bool) (slot : Slot) → is_holder s slot.holder ≡ false → settled s committed stamp slot ≡ slot
 settled-other s stamp committed slot other = cond-false (is_holder s slot.holder) (released committed stamp slot) slot other
 
-pub slot_at-settled : (slots : List Slot) (s stamp : ℕ) (committed : Bool) (o : ℕ) → get_or (map (settled s committed stamp) slots) o no_slot ≡ settled s committed stamp (get_or slots o no_slot)
+pub slot_at-settled : (slots : List Slot) (s stamp : ℕ) (committed : Bool) (o : ℕ) →
+    get_or (map (settled s committed stamp) slots) o no_slot ≡ settled s committed stamp (get_or slots o no_slot)
 slot_at-settled slots s stamp committed o = get_or_map (settled s committed stamp) slots o no_slot

@@ -1,20 +1,24 @@
 -- From replies to deeds: whoever answers as the machine owes keeps to what may come.
 use Rattle.std.proofs.Common.{◌≡◌, ℕ, List, [], ◌∷◌, Bool, true, false, cond, Option, Some, None, refl, sym, ap, subst, ◌∙◌, inl, inr, ◌⊎◌}
-use Rattle.std.specs.Prelude.{IsTrue, MatchOption, unwrap_or}
+use Rattle.std.specs.Prelude.{IsTrue, IsSomeAnd, MatchOption, unwrap_or}
 use Rattle.std.specs.Option.{option_map_or, option_and_then}
 use Rattle.eos_ops.specs.declared.command.Command.{Command}
-use Rattle.eos_ops.specs.declared.command.Command.TheVariants.{Begin, Create, Destroy, Length, Read, Append, Insert, Delete, Replace, Commit, Abort, Status}
+use Rattle.eos_ops.specs.declared.command.Command.TheVariants.{Begin, Create, Destroy, Length, Read, Append, Insert}
+use Rattle.eos_ops.specs.declared.command.Command.TheVariants.{Delete, Replace, Commit, Abort, Status}
 use Rattle.eos_ops.specs.declared.reply.Reply.{Reply}
 use Rattle.eos_ops.specs.declared.reply.Reply.TheVariants as reply
+use Rattle.eos_ops.specs.Memory.{TakesMemory, MayTakeMemory}
 use Rattle.eos_ops.specs.Objects.{object_of, with_bytes, is_too_long, reply_in}
+use Rattle.eos_ops.proofs.MemoryLemmas.{takes_may_take}
 use Rattle.history.specs.Event.{Event, Nothing, bounded, is_done, deed}
 use Rattle.history.specs.Refusals.{session_refusal, or_else, is_status}
 use Rattle.history.proofs.EventLaws.{object_of-with_bytes, reply_in-with_bytes, deed-object}
 use Rattle.machine.specs.Machine.{Machine, slot_at, seat_at, is_active, IsSession}
-use Rattle.machine.specs.Next.{CanUse, May}
+use Rattle.machine.specs.Next.{CanUse, CanBegin, May}
 use Rattle.machine.specs.Replies.{object_refused, seat_refused, refused, bounds_reply, answer, Answers, is_taking, IsAnswered, Replies}
 use Rattle.machine.specs.Runs.{state_after, MayRun, IsRun}
-use Rattle.machine.proofs.Answering.{Refuses, refused_refuses, seat_refused-session, deed_refusal, deed_memory, May-nothing, may_answered, may_taken, usable_object}
+use Rattle.machine.proofs.Answering.{Refuses, refused_refuses, seat_refused-session, deed_refusal, deed_memory}
+use Rattle.machine.proofs.Answering.{May-nothing, may_answered, may_taken, usable_object}
 
 or_else_none : (first second : Option Reply) → or_else first second ≡ None → (first ≡ None) × (second ≡ None)
 or_else_none None second h = (refl, h)
@@ -44,18 +48,21 @@ session_active false Status o on none = cc
 pub can_use : (m : Machine) (s : ℕ) (c : Command) (o : ℕ) → object_of c ≡ Some o → refused m s c ≡ None → CanUse m s o
 unfolding refused
 can_use m s c o on none =
-    let parts = or_else_none (seat_refused (seat_at m s) c) (option_and_then (object_refused m s) (object_of c)) (not_long (is_too_long c) reply.TooLong _ none) in
+    let parts = or_else_none (seat_refused (seat_at m s) c) (option_and_then (object_refused m s) (object_of c))
+    (not_long (is_too_long c) reply.TooLong _ none) in
     let active : is_active m s ≡ true = session_active (is_active m s) c o on (sym (seat_refused-session (seat_at m s) c o on) ∙ parts.0) in
     usable_object m s o active (sym (ap (λ (t : Option ℕ). option_and_then (object_refused m s) t) on) ∙ parts.1)
 
 pub answer-object : (m : Machine) (c : Command) (o : ℕ) → object_of c ≡ Some o → answer m c ≡ reply_in c (slot_at m o).working
 answer-object m c o on = ap (λ (t : Option ℕ). option_map_or (λ p. reply_in c (slot_at m p).working) t (bounds_reply c)) on
 
-may_object : (m : Machine) (s : ℕ) (c : Command) (r : Reply) (o : ℕ) → object_of c ≡ Some o → refused m s c ≡ None → (r ≡ answer m c) ⊎ IsTrue (is_taking (deed c r)) → May m s (deed c r)
+may_object : (m : Machine) (s : ℕ) (c : Command) (r : Reply) (o : ℕ) → object_of c ≡ Some o → refused m s c ≡ None →
+    (r ≡ answer m c) ⊎ IsTrue (is_taking (deed c r)) → May m s (deed c r)
 may_object m s c r o on none answered_so =
     let can : CanUse m s o = can_use m s c o on none in
     subst (May m s) (sym (deed-object c r o on)) (elim answered_so [
-      | inl same ↦ may_answered m s o (with_bytes c) r can (object_of-with_bytes c ∙ on) (reply_in-with_bytes c (slot_at m o).working ∙ sym (same ∙ answer-object m c o on))
+      | inl same ↦ may_answered m s o (with_bytes c) r can (object_of-with_bytes c ∙ on)
+          (reply_in-with_bytes c (slot_at m o).working ∙ sym (same ∙ answer-object m c o on))
       | inr taking ↦ may_taken m s o (with_bytes c) r can (sym (ap is_taking (deed-object c r o on)) ∙ taking)
     ])
 
@@ -71,15 +78,15 @@ abort_active : (active : Bool) → session_refusal active Abort ≡ None → act
 abort_active true none = refl
 abort_active false none = cc
 
-begin_takes : (b : Bool) → is_taking (bounded Begin b) ≡ true → ⊥
+pub begin_takes : (b : Bool) → is_taking (bounded Begin b) ≡ true → ⊥
 begin_takes true h = cc
 begin_takes false h = cc
 
-commit_takes : (b : Bool) → is_taking (bounded Commit b) ≡ true → ⊥
+pub commit_takes : (b : Bool) → is_taking (bounded Commit b) ≡ true → ⊥
 commit_takes true h = cc
 commit_takes false h = cc
 
-abort_takes : (b : Bool) → is_taking (bounded Abort b) ≡ true → ⊥
+pub abort_takes : (b : Bool) → is_taking (bounded Abort b) ≡ true → ⊥
 abort_takes true h = cc
 abort_takes false h = cc
 
@@ -87,31 +94,39 @@ status_bounds : (b : Bool) → bounded Status b ≡ Nothing
 status_bounds true = refl
 status_bounds false = refl
 
-may_begin : (m : Machine) (s : ℕ) (r : Reply) → IsSession m s → refused m s Begin ≡ None → IsAnswered m Begin r → May m s (deed Begin r)
+-- where nothing refuses a begin, a commit or an abort, it can be done
+pub can_begin : (m : Machine) (s : ℕ) → IsSession m s → refused m s Begin ≡ None → CanBegin m s
 unfolding refused
-may_begin m s r session none so =
+can_begin m s session none =
     let first = or_else_none (seat_refused (seat_at m s) Begin) None none in
-    let idle : is_active m s ≡ false = begin_idle (is_active m s) (or_else_none (session_refusal (is_active m s) Begin) _ first.0).0 in
+    record { session = session; idle = begin_idle (is_active m s) (or_else_none (session_refusal (is_active m s) Begin) _ first.0).0 }
+
+pub can_commit : (m : Machine) (s : ℕ) → refused m s Commit ≡ None → is_active m s ≡ true
+unfolding refused
+can_commit m s none = commit_active (is_active m s) (or_else_none (seat_refused (seat_at m s) Commit) None none).0
+
+pub can_abort : (m : Machine) (s : ℕ) → refused m s Abort ≡ None → is_active m s ≡ true
+unfolding refused
+can_abort m s none = abort_active (is_active m s) (or_else_none (seat_refused (seat_at m s) Abort) None none).0
+
+may_begin : (m : Machine) (s : ℕ) (r : Reply) → IsSession m s → refused m s Begin ≡ None → IsAnswered m Begin r → May m s (deed Begin r)
+may_begin m s r session none so =
     elim so [
-      | inl same ↦ subst (λ (x : Reply). May m s (deed Begin x)) (sym same) (record { session = session; idle = idle })
+      | inl same ↦ subst (λ (x : Reply). May m s (deed Begin x)) (sym same) (can_begin m s session none)
       | inr taking ↦ absurd (begin_takes (is_done r) taking)
     ]
 
 may_commit : (m : Machine) (s : ℕ) (r : Reply) → refused m s Commit ≡ None → IsAnswered m Commit r → May m s (deed Commit r)
-unfolding refused
 may_commit m s r none so =
-    let active : is_active m s ≡ true = commit_active (is_active m s) (or_else_none (seat_refused (seat_at m s) Commit) None none).0 in
     elim so [
-      | inl same ↦ subst (λ (x : Reply). May m s (deed Commit x)) (sym same) active
+      | inl same ↦ subst (λ (x : Reply). May m s (deed Commit x)) (sym same) (can_commit m s none)
       | inr taking ↦ absurd (commit_takes (is_done r) taking)
     ]
 
 may_abort : (m : Machine) (s : ℕ) (r : Reply) → refused m s Abort ≡ None → IsAnswered m Abort r → May m s (deed Abort r)
-unfolding refused
 may_abort m s r none so =
-    let active : is_active m s ≡ true = abort_active (is_active m s) (or_else_none (seat_refused (seat_at m s) Abort) None none).0 in
     elim so [
-      | inl same ↦ subst (λ (x : Reply). May m s (deed Abort x)) (sym same) active
+      | inl same ↦ subst (λ (x : Reply). May m s (deed Abort x)) (sym same) (can_abort m s none)
       | inr taking ↦ absurd (abort_takes (is_done r) taking)
     ]
 
@@ -129,7 +144,8 @@ may_reply m s Commit r session none so = may_commit m s r none so
 may_reply m s Abort r session none so = may_abort m s r none so
 may_reply m s Status r session none so = May-nothing m s (bounded Status (is_done r)) (status_bounds (is_done r))
 
-split_refused : (m : Machine) (s : ℕ) (c : Command) (r : Reply) (t : Option Reply) → IsSession m s → refused m s c ≡ t → MatchOption t (IsAnswered m c r) (λ refusal. r ≡ refusal) → May m s (deed c r)
+split_refused : (m : Machine) (s : ℕ) (c : Command) (r : Reply) (t : Option Reply) → IsSession m s →
+    refused m s c ≡ t → MatchOption t (IsAnswered m c r) (λ refusal. r ≡ refusal) → May m s (deed c r)
 split_refused m s c r None session is so = may_reply m s c r session is so
 split_refused m s c r (Some refusal) session is so =
     May-nothing m s (deed c r) (ap (deed c) so ∙ deed_refusal c refusal (subst Refuses is (refused_refuses m s c)))
@@ -144,7 +160,10 @@ May-replies m s c r session replies =
 
 pub MayRun-from : (m : Machine) (past : List Event) → IsRun m past → MayRun m past
 MayRun-from m [] run = tt
-MayRun-from m (e ∷ past) run = (MayRun-from m past run.0, May-replies (state_after m past) e.session e.command e.reply run.1.session run.1.reply)
+MayRun-from m (e ∷ past) run = (
+  MayRun-from m past run.0,
+  May-replies (state_after m past) e.session e.command e.reply run.1.session run.1.reply,
+)
 
 answer_is : (m : Machine) (c : Command) (r : Reply) → r ≡ answer m c → IsAnswered m c r
 answer_is m Begin r same = inl same
@@ -160,7 +179,8 @@ answer_is m Commit r same = inl same
 answer_is m Abort r same = inl same
 answer_is m Status r same = ap is_status same
 
-due_is : (m : Machine) (c : Command) (r : Reply) (t : Option Reply) → r ≡ unwrap_or t (answer m c) → MatchOption t (IsAnswered m c r) (λ refusal. r ≡ refusal)
+due_is : (m : Machine) (c : Command) (r : Reply) (t : Option Reply) → r ≡ unwrap_or t (answer m c) →
+    MatchOption t (IsAnswered m c r) (λ refusal. r ≡ refusal)
 due_is m c r None same = answer_is m c r same
 due_is m c r (Some refusal) same = same
 
@@ -169,5 +189,9 @@ pub Replies-answers : (m : Machine) (s : ℕ) (c : Command) (r : Reply) → Answ
 Replies-answers m s c r answers =
     elim answers [
       | inl same ↦ inr (due_is m c r (refused m s c) same)
-      | inr memory ↦ inl (memory.0, memory.2)
+      | inr lacks ↦ inl (lacks.0, lacks_may (object_of c) lacks.2)
     ]
+  where
+    lacks_may : (t : Option ℕ) → IsSomeAnd t (λ o. TakesMemory c (slot_at m o).working) → MayTakeMemory c
+    lacks_may None takes = absurd takes
+    lacks_may (Some o) takes = takes_may_take c (slot_at m o).working takes

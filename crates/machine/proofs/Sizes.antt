@@ -1,5 +1,6 @@
 -- The numbers of objects and of sessions stay, and so does the machine that a run began with.
-use Rattle.std.proofs.Common.{◌≡◌, ℕ, zero, suc, ◌≤◌, List, [], ◌∷◌, true, false, length, get_or, map, replicate, refl, sym, ap, subst, ◌∙◌, arith}
+use Rattle.std.proofs.Common.{◌≡◌, ℕ, zero, suc, ◌≤◌, List, [], ◌∷◌, true, false, length, get_or, map, replicate}
+use Rattle.std.proofs.Common.{refl, sym, ap, subst, ◌∙◌, arith}
 use Rattle.std.proofs.lemmas.List.{length-set, length-map, length-replicate}
 use Rattle.eos_ops.specs.declared.plain.Plain.{Plain}
 use Rattle.eos_ops.specs.declared.plain.Plain.TheVariants.{Absent}

@@ -1,5 +1,6 @@
 -- Stamps: an event raises none by more than one above the greatest.
-use Rattle.std.proofs.Common.{◌≡◌, ℕ, zero, suc, ◌+◌, ◌≤◌, List, [], ◌∷◌, Bool, true, false, cond, length, get_or, set, refl, sym, subst, inl, inr, ◌⊎◌, arith}
+use Rattle.std.proofs.Common.{◌≡◌, ℕ, zero, suc, ◌+◌, ◌≤◌, List, [], ◌∷◌, Bool, true, false, cond, length, get_or}
+use Rattle.std.proofs.Common.{set, refl, sym, subst, inl, inr, ◌⊎◌, arith}
 use Rattle.std.proofs.lemmas.Bool.{cases_Bool}
 use Rattle.history.specs.Event.{Event, Deed, Opens, Does, Takes, Closes, Nothing, deed_of}
 use Rattle.machine.specs.Machine.{Slot, Seat, Machine, no_slot, no_seat, slot_at, seat_in, seat_at, is_holder, with_slot, seats_with}
@@ -15,14 +16,16 @@ set_either (y ∷ xs) zero (suc j) x d = inr refl
 set_either (y ∷ xs) (suc i) zero x d = inr refl
 set_either (y ∷ xs) (suc i) (suc j) x d = set_either xs i j x d
 
-slot_within : (m : Machine) (o p n : ℕ) (slot : Slot) → slot.stamp ≤ n → ((q : ℕ) → (slot_at m q).stamp ≤ n) → (slot_at (with_slot m o slot) p).stamp ≤ n
+slot_within : (m : Machine) (o p n : ℕ) (slot : Slot) → slot.stamp ≤ n → ((q : ℕ) → (slot_at m q).stamp ≤ n) →
+    (slot_at (with_slot m o slot) p).stamp ≤ n
 slot_within m o p n slot new old =
     elim (set_either m.slots o p slot no_slot) [
       | inl same ↦ subst (λ (x : Slot). x.stamp ≤ n) (sym same) new
       | inr same ↦ subst (λ (x : Slot). x.stamp ≤ n) (sym same) (old p)
     ]
 
-seat_within : (seats : List Seat) (s t n : ℕ) (seat : Seat) → seat.stamp ≤ n → ((q : ℕ) → (seat_in seats q).stamp ≤ n) → (seat_in (seats_with seats s seat) t).stamp ≤ n
+seat_within : (seats : List Seat) (s t n : ℕ) (seat : Seat) → seat.stamp ≤ n →
+    ((q : ℕ) → (seat_in seats q).stamp ≤ n) → (seat_in (seats_with seats s seat) t).stamp ≤ n
 seat_within seats zero t n seat new old = old t
 seat_within seats (suc i) zero n seat new old = old zero
 seat_within seats (suc i) (suc j) n seat new old =
@@ -56,7 +59,8 @@ released_within false stamp n slot below = below
 settled_within : (s stamp n : ℕ) (committed : Bool) (slot : Slot) → stamp ≤ n → slot.stamp ≤ n → (settled s committed stamp slot).stamp ≤ n
 settled_within s stamp n committed slot new old =
     elim (cases_Bool (is_holder s slot.holder)) [
-      | inl held ↦ subst (λ (x : Slot). x.stamp ≤ n) (sym (settled-held s stamp committed slot held)) (released_within committed stamp n slot new)
+      | inl held ↦ subst (λ (x : Slot). x.stamp ≤ n) (sym (settled-held s stamp committed slot held))
+          (released_within committed stamp n slot new)
       | inr other ↦ subst (λ (x : Slot). x.stamp ≤ n) (sym (settled-other s stamp committed slot other)) old
     ]
 
@@ -81,7 +85,9 @@ StampsUpTo-next (Closes committed) m s n stamps =
     let new : stamp_of m s ≤ n + 1 = stamp_within m s n stamps in
     record {
       seats = λ t. seat_within m.seats s t (n + 1) (record { active = false; stamp = stamp_of m s }) new more.seats;
-      slots = λ p. subst (λ (x : Slot). x.stamp ≤ n + 1) (sym (slot_at-settled m.slots s (stamp_of m s) committed p)) (settled_within s (stamp_of m s) (n + 1) committed (slot_at m p) new (more.slots p));
+      slots = λ p. subst (λ (x : Slot). x.stamp ≤ n + 1)
+          (sym (slot_at-settled m.slots s (stamp_of m s) committed p))
+          (settled_within s (stamp_of m s) (n + 1) committed (slot_at m p) new (more.slots p));
     }
 StampsUpTo-next Nothing m s n stamps = StampsUpTo-more m n stamps
 
@@ -90,4 +96,5 @@ pub StampsUpTo-run : (m : Machine) (past : List Event) (n : ℕ) → StampsUpTo 
 StampsUpTo-run m [] n stamps = let same : n ≡ n + 0 = omega arith in subst (λ (k : ℕ). StampsUpTo k m) same stamps
 StampsUpTo-run m (e ∷ past) n stamps =
     let same : (n + length past) + 1 ≡ n + suc (length past) = omega arith in
-    subst (λ (k : ℕ). StampsUpTo k (state_after m (e ∷ past))) same (StampsUpTo-next (deed_of e) (state_after m past) e.session (n + length past) (StampsUpTo-run m past n stamps))
+    subst (λ (k : ℕ). StampsUpTo k (state_after m (e ∷ past))) same (StampsUpTo-next (deed_of e)
+    (state_after m past) e.session (n + length past) (StampsUpTo-run m past n stamps))

@@ -1,5 +1,6 @@
 -- The machine: a slot for each object and a seat for each session. Plain data, and no code.
-use Rattle.std.specs.Prelude.{◌≡◌, ℕ, zero, suc, ◌<◌, ◌≤◌, List, Bool, false, ◌==◌, Option, Some, None, length, map, replicate, slice_index_or, slice_set}
+use Rattle.std.specs.Prelude.{◌≡◌, ℕ, zero, suc, ◌<◌, ◌≤◌, List, Bool, false, ◌==◌, Option, Some}
+use Rattle.std.specs.Prelude.{None, length, map, replicate, slice_index_or, slice_set}
 use Rattle.eos_ops.specs.declared.plain.Plain.{Plain}
 use Rattle.eos_ops.specs.declared.plain.Plain.TheVariants.{Absent}
 use Rattle.history.specs.Holding.{count_below}
@@ -57,6 +58,20 @@ is_holder s (Some t) = t == s
 -- how many objects session s holds
 unfoldable pub held_by : Machine → ℕ → ℕ
 held_by m s = count_below (length m.slots) (λ o. is_holder s (slot_at m o).holder)
+
+-- a slot with its contents forgotten: who holds the object, and its last stamp
+abbrev pub bare_slot : Slot → Slot
+bare_slot slot = record {
+  committed = Absent;
+  working = Absent;
+  holder = slot.holder;
+  stamp =
+      slot.stamp;
+}
+
+-- the machine with the contents of all its objects forgotten
+abbrev pub bare : Machine → Machine
+bare m = record { slots = map bare_slot m.slots; seats = m.seats }
 
 -- the committed objects
 abbrev pub database : Machine → List Plain

@@ -1,14 +1,17 @@
 -- Which reply the machine owes to a command: the first refusal, or the object's own reply.
-use Rattle.std.specs.Prelude.{◌≡◌, ℕ, ◌⊎◌, Bool, true, false, nat_le, ◌==◌, Option, Some, None, length, is_some, unwrap_or, IsTrue, IsSome, MatchOption, if◌then◌else◌}
+use Rattle.std.specs.Prelude.{◌≡◌, ℕ, ◌⊎◌, Bool, true, false, nat_le, ◌==◌, Option, Some, None}
+use Rattle.std.specs.Prelude.{length, is_some, unwrap_or, IsTrue, IsSomeAnd, MatchOption}
+use Rattle.std.specs.Prelude.{if◌then◌else◌}
 use Rattle.std.specs.Option.{option_and_then, option_map_or}
 use Rattle.eos_ops.specs.declared.command.Command.{Command}
 use Rattle.eos_ops.specs.declared.command.Command.TheVariants.{Begin, Status}
 use Rattle.eos_ops.specs.declared.limits.TheConstants.{MAX_HELD, LAST_STAMP}
 use Rattle.eos_ops.specs.declared.reply.Reply.{Reply}
 use Rattle.eos_ops.specs.declared.reply.Reply.TheVariants as reply
+use Rattle.eos_ops.specs.Memory.{TakesMemory, MayTakeMemory}
 use Rattle.eos_ops.specs.Objects.{object_of, is_too_long, reply_in}
 use Rattle.history.specs.Event.{Deed, Opens, Does, Takes, Closes, Nothing, deed}
-use Rattle.history.specs.Refusals.{session_refusal, or_else, is_status}
+use Rattle.history.specs.Refusals.{session_refusal, or_else, is_status, is_answer}
 use Rattle.machine.specs.Machine.{Machine, Seat, slot_at, seat_at, is_holder, held_by}
 use Rattle.machine.specs.Next.{next}
 
@@ -24,7 +27,8 @@ object_refused m s o =
 
 -- a session whose stamp is the last one begins no transaction more
 abbrev pub seat_refused : Seat → Command → Option Reply
-seat_refused seat Begin = or_else (session_refusal seat.active Begin) (if seat.stamp == LAST_STAMP then Some reply.Worn else None)
+seat_refused seat Begin = or_else (session_refusal seat.active Begin)
+    (if seat.stamp == LAST_STAMP then Some reply.Worn else None)
 seat_refused seat c = session_refusal seat.active c
 
 -- The first refusal that a command meets: too long, then by the session, then by the object.
@@ -46,12 +50,18 @@ answer m c = option_map_or (λ o. reply_in c (slot_at m o).working) (object_of c
 abbrev pub due : Machine → ℕ → Command → Reply
 due m s c = unwrap_or (refused m s c) (answer m c)
 
--- The reply is the one due. Only where an object would have answered, want of memory may take its place.
-abbrev pub Answers : Machine → ℕ → Command → Reply → Type 0
-Answers m s c r = (r ≡ due m s c) ⊎ ((r ≡ reply.Memory) × (refused m s c ≡ None) × IsSome (object_of c))
+-- the reply is want of memory, where an object would have answered and its answer takes memory
+abbrev pub LacksMemory : Machine → ℕ → Command → Reply → Type 0
+LacksMemory m s c r = (r ≡ reply.Memory) × (refused m s c ≡ None)
+    × IsSomeAnd (object_of c) (λ o. TakesMemory c (slot_at m o).working)
 
--- One step over plain objects: the reply by `Answers`, and the state by the deed of what was answered. After
--- `memory`, and after each refusal, nothing has changed: an object that wasn't held isn't held now.
+-- the reply is the one due, or want of memory takes its place
+abbrev pub Answers : Machine → ℕ → Command → Reply → Type 0
+Answers m s c r = (r ≡ due m s c) ⊎ LacksMemory m s c r
+
+-- One step over plain objects: the reply by `Answers`, and the state by the deed of what was
+-- answered. After `memory`, and after each refusal, nothing has changed: an object that wasn't
+-- held isn't held now.
 pub record IsStep (m : Machine) (s : ℕ) (c : Command) (r : Reply) (m' : Machine) : Type 0 where
   pub reply : Answers m s c r
   pub state : m' ≡ next m s (deed c r)
@@ -63,14 +73,22 @@ is_taking (Does o act) = false
 is_taking (Closes committed) = false
 is_taking Nothing = false
 
--- a reply that nothing refuses, over any store: the machine's, or one of the space or the device of the object
+-- a reply that nothing refuses, over any store: the machine's, or one of the space or the device
+-- of the object
 abbrev pub IsAnswered : Machine → Command → Reply → Type 0
 IsAnswered m Status r = IsTrue (is_status r)
 IsAnswered m c r = (r ≡ answer m c) ⊎ IsTrue (is_taking (deed c r))
 
--- What every layer keeps to: the first refusal, or an answer where there is none; and want of memory on a command
--- on an object, also where its line is read.
+-- What every layer keeps to: the first refusal, or an answer where there is none; and want of
+-- memory where the command may take memory, also where its line is read.
 abbrev pub Replies : Machine → ℕ → Command → Reply → Type 0
 Replies m s c r =
-    ((r ≡ reply.Memory) × IsSome (object_of c))
+    ((r ≡ reply.Memory) × MayTakeMemory c)
     ⊎ MatchOption (refused m s c) (IsAnswered m c r) (λ refusal. r ≡ refusal)
+
+-- What is owed over a device that tells nothing: as `Replies`, but an answer is of whatever
+-- contents. The first refusal doesn't depend on contents.
+abbrev pub Owes : Machine → ℕ → Command → Reply → Type 0
+Owes m s c r =
+    ((r ≡ reply.Memory) × MayTakeMemory c)
+    ⊎ MatchOption (refused m s c) (IsTrue (is_answer c r)) (λ refusal. r ≡ refusal)

@@ -1,7 +1,3 @@
-mod CountLemmas
-mod HeadlineLemmas
-mod LineLemmas
-mod RunLemmas
-mod ServedLemmas
-mod StatusLemmas
+pub mod StepLemmas
+mod UsageLemmas
 mod WordLemmas

@@ -5,9 +5,11 @@ use Rattle.geometry_model.specs.Numbers.{Numbers, IsInRange}
 
 -- the five numbers of a store, each as its decimal digits
 abbrev pub number_words : Numbers → List (List ℕ)
-number_words n = decimal n.page ∷ decimal n.order ∷ decimal n.spaces ∷ decimal n.catalog ∷ decimal n.threshold ∷ []
+number_words n = decimal n.page ∷ decimal n.order ∷ decimal n.spaces ∷ decimal n.catalog
+    ∷ decimal n.threshold ∷ []
 
--- The words are the numbers of a store. A number has no leading zeros, and being in range it has 4 digits at most.
+-- The words are the numbers of a store. A number has no leading zeros, and being in range it has
+-- 4 digits at most.
 pub record AreStore (words : List (List ℕ)) (n : Numbers) : Type 0 where
   pub spelling : words ≡ number_words n
   pub range : IsInRange n

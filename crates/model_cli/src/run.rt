@@ -1,45 +1,23 @@
 //! The whole run.
 
-ghost use Rattle.std.specs.Prelude.{◌≡◌, ◌↔◌, ◌⊎◌, map, string_bytes, OnOk, IfOk, IfSome};
-ghost use Rattle.edge_io.specs.Cause.{HasCause};
-ghost use Rattle.edge_io.specs.Moved.{GaveAll};
-ghost use Rattle.geometry_model.specs.Numbers.{Numbers};
-ghost use Rattle.model_cli.specs.Headline.{IsLong, Done, CutShort};
+ghost use Rattle.std.specs.Prelude.{◌≡◌, ◌↔◌, map, replicate, string_bytes, OnOk};
+ghost use Rattle.fault_count.specs.Counts.{HasCause};
+ghost use Rattle.eos_ops.specs.declared.plain.Plain.TheVariants.{Absent};
+ghost use Rattle.geometry_model.specs.Numbers.{Numbers, objects};
+ghost use Rattle.moment_model.specs.Moment.{absent_slot};
+ghost use Rattle.script_run.specs.Ends.{TellsLong, LeavesCut};
+ghost use Rattle.script_run.specs.Headline.{Done, CutShort, GivenUp};
+ghost use Rattle.model_cli.specs.Headline.{HasStoreRun};
 ghost use Rattle.model_cli.specs.Words.{AreStore};
 
-use crate::failure::Failure;
-use crate::lines::has_long_line;
-use crate::script::run_script;
+use crate::server::ModelServer;
 use crate::words::store_of;
-use edge_io::{ReadFail, Sink, SinkFail, Source, read_all};
-use script_model::MAX_SCRIPT;
+use edge_io::{Sink, Source};
+use script_run::{Failure, read_script, run_script};
 use std::alloc::Global;
 
-/// The whole input, where it is no longer than a script may be and has no line that is too long.
-fn read_script<I: Source>(alloc: Global, input: &mut I) -> Result<Vec<u8>, Failure>
-    ensures all { IfOk result
-        (λ script. GaveAll script.items (I.left input.old) (I.left input.new)) }
-    ensures short { IfOk result (λ script. IsLong script.items → ⊥) }
-    ensures long { result ≡ Err Failure.Long → IfSome (I.left input.old) IsLong }
-    ensures cause { HasCause (I.faults input.old) (I.faults input.new)
-        (result ≡ Err Failure.Input) }
-    ensures usage { (result ≡ Err Failure.Usage) → ⊥ }
-    ensures output { (result ≡ Err Failure.Output) → ⊥ }
-{
-    let script = match read_all(alloc, input, MAX_SCRIPT) {
-        Ok(script) => script,
-        Err(ReadFail::Fault) => return Err(Failure::Input),
-        Err(ReadFail::TooLong) => return Err(Failure::Long),
-        Err(ReadFail::Memory) => return Err(Failure::Memory),
-    };
-    if has_long_line(&script) {
-        return Err(Failure::Long);
-    }
-    Ok(script)
-}
-
-/// Serves the words, which are the numbers of a store: reads the whole input, and runs its lines in order over a
-/// fresh store of these numbers. Each reply is written before the next line is run.
+/// Serves the words, which are the numbers of a store: reads the whole input, and runs its lines in
+/// order over a fresh store of these numbers. Each reply is written before the next line is run.
 ///
 /// | Failure | Comes |
 /// |---|---|
@@ -47,7 +25,7 @@ fn read_script<I: Source>(alloc: Global, input: &mut I) -> Result<Vec<u8>, Failu
 /// | `Input` | only where a call of the source failed |
 /// | `Output` | only where a call of the sink failed, and never for an input that is too long |
 /// | `Long` | only where the input or a line of it is too long |
-/// | `Memory` | for want of memory, or where a number of the plain store passed its type |
+/// | `Memory` | for want of memory, or where a number of the plain store passed its type; never after the last reply |
 pub fn run_model<I: Source, O: Sink>(
     alloc: Global,
     words: &[String],
@@ -60,37 +38,34 @@ pub fn run_model<I: Source, O: Sink>(
         (result ≡ Err Failure.Input) }
     ensures output { HasCause (O.faults output.old) (O.faults output.new)
         (result ≡ Err Failure.Output) }
-    ensures long { result ≡ Err Failure.Long → IfSome (I.left input.old) IsLong }
-    ensures within { result ≡ Err Failure.Output
-        → IfSome (I.left input.old) (λ script. IsLong script → ⊥) }
+    ensures long { TellsLong (λ failure. result ≡ Err failure) (I.left input.old) }
 
     // After a failure before the first line nothing was written, and after one of the words
-    // nothing was read.
-    ensures unread { result ≡ Err Failure.Usage → I.left input.new ≡ I.left input.old }
-    ensures silent { (result ≡ Err Failure.Usage)
-        ⊎ ((result ≡ Err Failure.Input) ⊎ (result ≡ Err Failure.Long))
-        → O.written output.new ≡ O.written output.old }
-
-    // After a failure while lines were run the output has the answers to those that were, the last
-    // of them in part or not at all.
-    ensures cut { (result ≡ Err Failure.Output) ⊎ (result ≡ Err Failure.Memory) →
-        (O.written output.new ≡ O.written output.old)
-        ⊎ ((n : Numbers) × (AreStore (map string_bytes words.now) n
-        × CutShort n (I.left input.old) (I.left input.new)
-        (O.written output.old) (O.written output.new))) }
+    // nothing was read. After a failure of the sink the output has the answers to the lines that
+    // were run, of the last one a front alone. Where memory was wanting it is so too, or nothing
+    // was written, or the store gave up at a line, with the answers to the lines before it.
+    ensures cut { LeavesCut (λ failure. result ≡ Err failure)
+        ((n : Numbers) × (AreStore (map string_bytes words.now) n
+        × CutShort (HasStoreRun n (replicate (objects n) Absent)
+        (replicate (objects n) absent_slot))
+        (I.left input.old) (I.left input.new) (O.written output.old) (O.written output.new)))
+        ((n : Numbers) × (AreStore (map string_bytes words.now) n
+        × GivenUp (HasStoreRun n (replicate (objects n) Absent)
+        (replicate (objects n) absent_slot))
+        (I.left input.old) (I.left input.new) (O.written output.old) (O.written output.new)))
+        (I.left input.old) (I.left input.new) (O.written output.old) (O.written output.new) }
 
     // The replies are those of one run of a fresh store of the numbers that the words are.
     ensures done { OnOk result ((n : Numbers) × (AreStore (map string_bytes words.now) n
-        × Done n (I.left input.old) (I.left input.new)
-        (O.written output.old) (O.written output.new))) }
+        × Done (HasStoreRun n (replicate (objects n) Absent) (replicate (objects n) absent_slot))
+        (I.left input.old) (I.left input.new) (O.written output.old) (O.written output.new))) }
 {
     let Some(numbers) = store_of(words) else {
         return Err(Failure::Usage);
     };
     let script = read_script(alloc, input)?;
-    match run_script(alloc, numbers, &script, output) {
-        Ok(()) => Ok(()),
-        Err(SinkFail::Fault) => Err(Failure::Output),
-        Err(SinkFail::Memory) => Err(Failure::Memory),
-    }
+    let Ok(mut server) = ModelServer::new(alloc, numbers) else {
+        return Err(Failure::Memory);
+    };
+    run_script(alloc, &mut server, &script, output)
 }

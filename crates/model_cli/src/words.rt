@@ -1,6 +1,7 @@
 //! The numbers of a store as words.
 
-ghost use Rattle.std.specs.Prelude.{◌≡◌, ◌<◌, ◌≤◌, ◌↔◌, IsTrue, IfSome, MatchOption, map, string_bytes, length, slice_index};
+ghost use Rattle.std.specs.Prelude.{◌≡◌, ◌<◌, ◌≤◌, ◌↔◌, IsTrue, IfSome, MatchOption, map};
+ghost use Rattle.std.specs.Prelude.{string_bytes, length, slice_index};
 ghost use Rattle.geometry_model.specs.Numbers.{Numbers, IsInRange, is_page_size};
 ghost use Rattle.plain_plan.specs.Store.{numbers_of};
 ghost use Rattle.script_text.specs.Words.{number_of};

@@ -1,5 +1,7 @@
 -- A chain of grants takes runs out of the free pages, each page once.
-use Rattle.std.proofs.Common.{◌≡◌, ℕ, zero, suc, ◌+◌, ◌-◌, ◌*◌, ◌/◌, ◌<◌, ◌≤◌, Bool, true, false, Option, Some, None, List, [], ◌∷◌, ◌++◌, length, map, refl, sym, ap, subst, arith, ◌∙◌, ◌⊎◌, inl, inr, nat_lt, get_or-set_same, get_or-set_other, length-set}
+use Rattle.std.proofs.Common.{◌≡◌, ℕ, zero, suc, ◌+◌, ◌-◌, ◌*◌, ◌/◌, ◌<◌, ◌≤◌, Bool, true, false, Option, Some}
+use Rattle.std.proofs.Common.{None, List, [], ◌∷◌, ◌++◌, length, map, refl, sym, ap, subst, arith, ◌∙◌, ◌⊎◌, inl}
+use Rattle.std.proofs.Common.{inr, nat_lt, get_or-set_same, get_or-set_other, length-set}
 use Rattle.std.specs.List.{AllByRecursion, range_with_len}
 use Rattle.std.proofs.lemmas.Bool.{cases_lt, cases_eq}
 use Rattle.std.proofs.lemmas.Bool.Decides.{nat_tests}
@@ -7,6 +9,7 @@ use Rattle.std.proofs.lemmas.List.{get_or_past, get_or-map, length-map}
 use Rattle.std.proofs.lemmas.List.FromFn.{length-range_with_len, get_or-range_with_len}
 use Rattle.std.proofs.lemmas.List.Sums.{sum_by-cons, sum_by-append}
 use Rattle.std.proofs.lemmas.Nat.{pow_pos}
+use Rattle.base_laws.proofs.ListLaws.{all-append}
 use Rattle.geometry_model.specs.Numbers.{Numbers, space_pages}
 use Rattle.geometry_model.specs.Pages.{IsInSpace, IsPlace, first_page, data_page, place}
 use Rattle.geometry_model.proofs.PageLaws.{IsPlace-from_place, place-of_IsPlace, IsPlace-in_run, IsPlace-unique}
@@ -18,7 +21,8 @@ use Rattle.block_model.proofs.Runs.{IsBlock-within}
 use Rattle.block_model.proofs.Changes.{length-with_run, with_run-below, with_run-inside, with_run-above}
 use Rattle.layout_model.specs.declared.extent.Extent.{Extent}
 use Rattle.layout_model.specs.declared.request.Request.{Request}
-use Rattle.layout_model.specs.Grants.{Spaces, Spot, Answer, space_at, around, spot_in, without, and_then, or_else, run_of, only, halved, part_runs, all_runs, node_pages}
+use Rattle.layout_model.specs.Grants.{Spaces, Spot, Answer, space_at, around, spot_in, without, and_then, or_else}
+use Rattle.layout_model.specs.Grants.{run_of, only, halved, part_runs, all_runs, node_pages}
 use Rattle.layout_model.specs.Grants.Answer.{Got, Refused}
 use Rattle.layout_model.specs.declared.change.Change.{Change}
 use Rattle.layout_model.specs.Levels.{count_made}
@@ -46,7 +50,8 @@ place-fits free n at p =
     }
 
 -- what is found stands in its space
-found_at-spot : (spaces : Spaces) (n s : ℕ) (rest : List ℕ) (found : Option ℕ) (spot : Spot) → block_place.place (space_at spaces s) n ≡ found →
+found_at-spot : (spaces : Spaces) (n s : ℕ) (rest : List ℕ) (found : Option ℕ) (spot : Spot) →
+    block_place.place (space_at spaces s) n ≡ found →
     (spot_in spaces n rest ≡ Some spot → block_place.place (space_at spaces spot.space) n ≡ Some spot.at) →
     elim found [
       | Some at ↦ Some (record { space = s; at = at })
@@ -67,7 +72,8 @@ spot_in-place spaces n (s ∷ rest) spot found =
 
 -- a page is in a run, or before it or behind it
 pub covers-cases : (page : ℕ) (run : Extent) →
-    ((covers page run ≡ 1) × (run.page ≤ page) × (page < run.page + run.pages)) ⊎ ((covers page run ≡ 0) × ((page < run.page) ⊎ (run.page + run.pages ≤ page)))
+    ((covers page run ≡ 1) × (run.page ≤ page) × (page < run.page + run.pages))
+    ⊎ ((covers page run ≡ 0) × ((page < run.page) ⊎ (run.page + run.pages ≤ page)))
 covers-cases page run =
     elim (cases_lt page run.page) [
       | inl before ↦ inr (grind (arith, nat_tests), inl before)
@@ -131,8 +137,13 @@ without-spaces n spaces spot pages are is =
     }
 
 -- a page of the store after the run was taken, by its place
-taken-at : (n : Numbers) (spaces : Spaces) (spot : Spot) (pages page s at : ℕ) → AreSpaces n spaces → IsSpot n spaces spot pages → IsPlace n page s at →
-    count_true (has_page (space_at (without spaces spot pages) s) at) + covers page (record { page = data_page n spot.space spot.at; pages = pages })
+taken-at : (n : Numbers) (spaces : Spaces) (spot : Spot) (pages page s at : ℕ) → AreSpaces n spaces →
+    IsSpot n spaces spot pages → IsPlace n page s at →
+    count_true (has_page (space_at (without spaces spot pages) s) at) + covers page (record {
+      page =
+          data_page n spot.space spot.at;
+      pages = pages;
+    })
     ≡ count_true (has_page (space_at spaces s) at)
 taken-at n spaces spot pages page s at are is at_place =
     let free = space_at spaces spot.space in
@@ -149,7 +160,8 @@ taken-at n spaces spot pages page s at are is at_place =
           elim (covers-cases page run) [
             | inr out ↦ let none = out.0 in omega (arith, same, none)
             | inl covered ↦
-                let other = IsPlace-in_run n spot.space (data_page n spot.space spot.at) pages page (spot-in_space n spaces spot pages is) covered.1 covered.2 in
+                let other = IsPlace-in_run n spot.space (data_page n spot.space spot.at) pages page
+                (spot-in_space n spaces spot pages is) covered.1 covered.2 in
                 absurd (differ (IsPlace-unique n page s at spot.space (page - first_page n spot.space) at_place other).0)
           ]
       | inl same ↦
@@ -173,7 +185,8 @@ taken-at n spaces spot pages page s at are is at_place =
                   | inl before ↦ with_run-below free spot.at pages false at is.within (omega (arith, before, page_is))
                   | inr behind ↦ with_run-above free spot.at pages false at is.within (omega (arith, behind, page_is))
                 ] in
-                let count_same : count_true (has_page (space_at (without spaces spot pages) s) at) ≡ count_true (has_page (space_at spaces s) at) =
+                let count_same : count_true (has_page (space_at (without spaces spot pages) s) at)
+                ≡ count_true (has_page (space_at spaces s) at) =
                 ap count_true (new ∙ (stays ∙ sym old)) in
                 let none = out.0 in
                 omega (arith, count_same, none)
@@ -189,7 +202,8 @@ place-cases n page = go (place n page) refl
     go (Some at) e = inr (at, e)
 
 -- one run is taken out of the free pages
-pub spot-took : (n : Numbers) (spaces : Spaces) (spot : Spot) (pages : ℕ) (order : List ℕ) → AreSpaces n spaces → spot_in spaces pages order ≡ Some spot →
+pub spot-took : (n : Numbers) (spaces : Spaces) (spot : Spot) (pages : ℕ) (order : List ℕ) → AreSpaces n spaces →
+    spot_in spaces pages order ≡ Some spot →
     Took n spaces (record { page = data_page n spot.space spot.at; pages = pages } ∷ []) (without spaces spot pages)
 spot-took n spaces spot pages order are found =
     let run : Extent = record { page = data_page n spot.space spot.at; pages = pages } in
@@ -204,8 +218,12 @@ spot-took n spaces spot pages order are found =
             | inr some ↦
                 let at_place = IsPlace-from_place n page some.0.0 some.0.1 some.1 in
                 let here = taken-at n spaces spot pages page some.0.0 some.0.1 are is at_place in
-                let new : count_true (is_among n left page) ≡ count_true (has_page (space_at left some.0.0) some.0.1) = ap (λ o. count_true (test_at left o)) some.1 in
-                let old : count_true (is_among n spaces page) ≡ count_true (has_page (space_at spaces some.0.0) some.0.1) = ap (λ o. count_true (test_at spaces o)) some.1 in
+                let new : count_true (is_among n left page)
+                ≡ count_true (has_page (space_at left some.0.0) some.0.1) =
+                ap (λ o. count_true (test_at left o)) some.1 in
+                let old : count_true (is_among n spaces page)
+                ≡ count_true (has_page (space_at spaces some.0.0) some.0.1) =
+                ap (λ o. count_true (test_at spaces o)) some.1 in
                 omega (arith, alone, here, new, old)
             | inl none ↦
                 let new : count_true (is_among n left page) ≡ 0 = ap (λ o. count_true (test_at left o)) none in
@@ -213,7 +231,8 @@ spot-took n spaces spot pages order are found =
                 elim (covers-cases page run) [
                   | inr out ↦ let free = out.0 in omega (arith, alone, new, old, free)
                   | inl covered ↦
-                      let other = IsPlace-in_run n spot.space (data_page n spot.space spot.at) pages page (spot-in_space n spaces spot pages is) covered.1 covered.2 in
+                      let other = IsPlace-in_run n spot.space (data_page n spot.space spot.at) pages page
+                      (spot-in_space n spaces spot pages is) covered.1 covered.2 in
                       let some = place-of_IsPlace n page spot.space (page - first_page n spot.space) other in
                       absurd (cc)
                 ]
@@ -222,16 +241,12 @@ spot-took n spaces spot pages order are found =
 
 -- ---- chains
 
--- all items of two lists
-pub all-append : {X : Type 0} (P : X → Type 0) (xs ys : List X) → AllByRecursion P xs → AllByRecursion P ys → AllByRecursion P (xs ++ ys)
-all-append P [] ys left right = right
-all-append P (x ∷ xs) ys left right = (left.0, all-append P xs ys left.1 right)
-
 pub uses-append : (page : ℕ) (xs ys : List Extent) → uses page (xs ++ ys) ≡ uses page xs + uses page ys
 uses-append page xs ys = sum_by-append (covers page) xs ys
 
 -- two rows one after the other
-pub took-then : (n : Numbers) (free mid left : Spaces) (xs ys : List Extent) → Took n free xs mid → Took n mid ys left → Took n free (xs ++ ys) left
+pub took-then : (n : Numbers) (free mid left : Spaces) (xs ys : List Extent) → Took n free xs mid →
+    Took n mid ys left → Took n free (xs ++ ys) left
 took-then n free mid left xs ys first second = record {
   spaces = second.spaces;
   together = all-append (LiesInSpace n) xs ys first.together second.together;
@@ -257,13 +272,15 @@ takes-or_else n runs free (Refused pages) other first second = second pages
 
 pub takes-and_then : {A B : Type 0} (n : Numbers) (runs : A → List Extent) (all : B → List Extent) (free : Spaces) (answer : Answer A)
     (next : A → Spaces → Answer B) → Takes n runs free answer →
-    ((value : A) (mid : Spaces) → Took n free (runs value) mid → Takes n all free (next value mid)) → Takes n all free (and_then answer next)
+    ((value : A) (mid : Spaces) → Took n free (runs value) mid → Takes n all free (next value mid)) →
+    Takes n all free (and_then answer next)
 takes-and_then n runs all free (Got value mid) next first further = further value mid first
 takes-and_then n runs all free (Refused pages) next first further = tt
 
 -- the last of a chain, put together with what was taken before it
 pub takes-made : {A B : Type 0} (n : Numbers) (runs : A → List Extent) (all : B → List Extent) (free mid : Spaces) (before : List Extent)
-    (answer : Answer A) (make : A → B) → Took n free before mid → Takes n runs mid answer → ((value : A) → all (make value) ≡ before ++ runs value) →
+    (answer : Answer A) (make : A → B) → Took n free before mid → Takes n runs mid answer →
+    ((value : A) → all (make value) ≡ before ++ runs value) →
     Takes n all free (and_then answer (λ value left. Got (make value) left))
 takes-made n runs all free mid before (Got value left) make first second same =
     subst (λ (xs : List Extent). Took n free xs left) (sym (same value)) (took-then n free mid left before (runs value) first second)
@@ -272,7 +289,8 @@ takes-made n runs all free mid before (Refused pages) make first second same = t
 -- ---- the grants of a change
 
 -- a spot or a refusal
-takes-spot : (n : Numbers) (pages : ℕ) (spaces : Spaces) (order : List ℕ) (found : Option Spot) → AreSpaces n spaces → spot_in spaces pages order ≡ found →
+takes-spot : (n : Numbers) (pages : ℕ) (spaces : Spaces) (order : List ℕ) (found : Option Spot) →
+    AreSpaces n spaces → spot_in spaces pages order ≡ found →
     Takes n (λ (run : Extent). run ∷ []) spaces (elim found [
       | Some spot ↦ Got (record { page = data_page n spot.space spot.at; pages = pages }) (without spaces spot pages)
       | None ↦ Refused pages
@@ -280,7 +298,8 @@ takes-spot : (n : Numbers) (pages : ℕ) (spaces : Spaces) (order : List ℕ) (f
 takes-spot n pages spaces order (Some spot) are found = spot-took n spaces spot pages order are found
 takes-spot n pages spaces order None are found = tt
 
-pub run_of-takes : (n : Numbers) (start pages : ℕ) (spaces : Spaces) → AreSpaces n spaces → Takes n (λ (run : Extent). run ∷ []) spaces (run_of n start pages spaces)
+pub run_of-takes : (n : Numbers) (start pages : ℕ) (spaces : Spaces) → AreSpaces n spaces →
+    Takes n (λ (run : Extent). run ∷ []) spaces (run_of n start pages spaces)
 run_of-takes n start pages spaces are =
     takes-spot n pages spaces (around start (length spaces)) (spot_in spaces pages (around start (length spaces))) are refl
 
@@ -293,17 +312,22 @@ takes-page : (n : Numbers) (spaces : Spaces) (order : List ℕ) (found : Option 
 takes-page n spaces order (Some spot) are found = spot-took n spaces spot 1 order are found
 takes-page n spaces order None are found = tt
 
-page_of-takes : (n : Numbers) (start : ℕ) (spaces : Spaces) → AreSpaces n spaces → Takes n (λ (run : Extent). page_run run.page ∷ []) spaces (run_of n start 1 spaces)
+page_of-takes : (n : Numbers) (start : ℕ) (spaces : Spaces) → AreSpaces n spaces →
+    Takes n (λ (run : Extent). page_run run.page ∷ []) spaces (run_of n start 1 spaces)
 page_of-takes n start spaces are =
     takes-page n spaces (around start (length spaces)) (spot_in spaces 1 (around start (length spaces))) are refl
 
-alone-takes : (n : Numbers) (start pages : ℕ) (spaces : Spaces) → AreSpaces n spaces → Takes n (λ (runs : List Extent). runs) spaces (and_then (run_of n start pages spaces) only)
+alone-takes : (n : Numbers) (start pages : ℕ) (spaces : Spaces) → AreSpaces n spaces →
+    Takes n (λ (runs : List Extent). runs) spaces (and_then (run_of n start pages spaces) only)
 alone-takes n start pages spaces are =
-    takes-and_then n (λ (run : Extent). run ∷ []) (λ (runs : List Extent). runs) spaces (run_of n start pages spaces) only (run_of-takes n start pages spaces are)
+    takes-and_then n (λ (run : Extent). run ∷ [])
+    (λ (runs : List Extent). runs) spaces (run_of n start pages spaces) only
+    (run_of-takes n start pages spaces are)
     (λ run mid took. took)
 
 -- what is cut no further is refused
-takes-choice : (n : Numbers) (free : Spaces) (pages : ℕ) (small : Bool) (cut : Answer (List Extent)) → Takes n (λ (runs : List Extent). runs) free cut →
+takes-choice : (n : Numbers) (free : Spaces) (pages : ℕ) (small : Bool) (cut : Answer (List Extent)) →
+    Takes n (λ (runs : List Extent). runs) free cut →
     Takes n (λ (runs : List Extent). runs) free (elim small [
       | true ↦ Refused pages
       | false ↦ cut
@@ -318,11 +342,14 @@ halved-takes (suc steps) n start threshold pages spaces are =
     let cut = and_then (halved steps n start threshold ((pages + 1) / 2) spaces) (λ first left.
     and_then (halved steps n start threshold (pages / 2) left) (λ second rest. Got (first ++ second) rest)) in
     let both : Takes n (λ (runs : List Extent). runs) spaces cut =
-    takes-and_then n (λ (runs : List Extent). runs) (λ (runs : List Extent). runs) spaces (halved steps n start threshold ((pages + 1) / 2) spaces)
+    takes-and_then n (λ (runs : List Extent). runs)
+    (λ (runs : List Extent). runs) spaces (halved steps n start threshold ((pages + 1) / 2) spaces)
     (λ first left. and_then (halved steps n start threshold (pages / 2) left) (λ second rest. Got (first ++ second) rest))
     (halved-takes steps n start threshold ((pages + 1) / 2) spaces are)
     (λ first mid took.
-    takes-made n (λ (runs : List Extent). runs) (λ (runs : List Extent). runs) spaces mid first (halved steps n start threshold (pages / 2) mid) (λ second. first ++ second)
+    takes-made n (λ (runs : List Extent). runs)
+    (λ (runs : List Extent). runs) spaces mid first (halved steps n start threshold (pages / 2) mid)
+    (λ second. first ++ second)
     took (halved-takes steps n start threshold (pages / 2) mid took.spaces) (λ second. refl)) in
     takes-or_else n (λ (runs : List Extent). runs) spaces (and_then (run_of n start pages spaces) only)
     (λ refused. elim (nat_lt pages (2 * threshold)) [
@@ -357,7 +384,8 @@ node_pages-takes n start (suc count) spaces are =
     (λ run left. and_then (node_pages n start count left) (λ pages rest_left. Got (run.page ∷ pages) rest_left))
     (page_of-takes n start spaces are)
     (λ run mid took.
-    takes-made n (map page_run) (map page_run) spaces mid (page_run run.page ∷ []) (node_pages n start count mid) (λ pages. run.page ∷ pages)
+    takes-made n (map page_run) (map page_run) spaces mid (page_run run.page ∷ []) (node_pages n start count mid)
+    (λ pages. run.page ∷ pages)
     took (node_pages-takes n start count mid took.spaces) (λ pages. refl))
 
 -- all that is granted for a change
@@ -371,11 +399,13 @@ granted-takes n start tree spare change free are =
     Got (record { runs = runs; pages = pages }) rest))
     (all_runs-takes n start tree.threshold (wanted n tree change plan) free are)
     (λ runs mid took.
-    takes-made n (map page_run) granted_runs free mid (runs_of_parts runs) (node_pages n start (count_made (laid_levels n tree spare plan runs [])) mid)
+    takes-made n (map page_run) granted_runs free mid (runs_of_parts runs)
+    (node_pages n start (count_made (laid_levels n tree spare plan runs [])) mid)
     (λ pages. record { runs = runs; pages = pages })
     took (node_pages-takes n start (count_made (laid_levels n tree spare plan runs [])) mid took.spaces) (λ pages. refl))
 
-pub granted-took : (n : Numbers) (start : ℕ) (tree : Tree) (spare : Option Extent) (change : Change) (free left : Spaces) (grants : Grants) → AreSpaces n free →
+pub granted-took : (n : Numbers) (start : ℕ) (tree : Tree) (spare : Option Extent) (change : Change)
+    (free left : Spaces) (grants : Grants) → AreSpaces n free →
     granted n start tree spare change free ≡ Got grants left → Took n free (granted_runs grants) left
 granted-took n start tree spare change free left grants are same =
     subst (Takes n granted_runs free) same (granted-takes n start tree spare change free are)
@@ -383,7 +413,8 @@ granted-took n start tree spare change free left grants are same =
 -- ---- the free pages of a moment
 
 -- a list of tests has the test of each place
-tests_in-page : (n : Numbers) (s : ℕ) (test : ℕ → Bool) (at : ℕ) → at < space_pages n → has_page (tests_in n s test) at ≡ test (data_page n s at)
+tests_in-page : (n : Numbers) (s : ℕ) (test : ℕ → Bool) (at : ℕ) → at < space_pages n →
+    has_page (tests_in n s test) at ≡ test (data_page n s at)
 tests_in-page n s test at within =
     let long : at < length (range_with_len 0 (space_pages n)) = omega (arith, length-range_with_len 0 (space_pages n), within) in
     get_or-map (λ (k : ℕ). test (data_page n s k)) (range_with_len 0 (space_pages n)) at 0 false long
@@ -400,11 +431,13 @@ unfolding free_of
 free_of-spaces n moment = record {
   count = length-map (range_with_len 0 n.spaces) (free_in n moment) ∙ length-range_with_len 0 n.spaces;
   each = λ s within. ap length (tests-space n (free_in n moment) s within)
-      ∙ (length-map (range_with_len 0 (space_pages n)) (λ at. is_free n (data_page n s at) moment) ∙ length-range_with_len 0 (space_pages n));
+      ∙ (length-map (range_with_len 0 (space_pages n)) (λ at. is_free n (data_page n s at) moment)
+      ∙ length-range_with_len 0 (space_pages n));
 }
 
 -- the free pages of a moment are the data pages that nobody uses
-pub is_among-free : (n : Numbers) (moment : Moment) (page s at : ℕ) → IsPlace n page s at → is_among n (free_of n moment) page ≡ is_free n page moment
+pub is_among-free : (n : Numbers) (moment : Moment) (page s at : ℕ) → IsPlace n page s at →
+    is_among n (free_of n moment) page ≡ is_free n page moment
 unfolding free_of
 is_among-free n moment page s at is =
     let found = place-of_IsPlace n page s at is in

@@ -1,4 +1,5 @@
--- Sums over a list whose items past the end count nothing: at most once in all is at most once each and no two together.
+-- Sums over a list whose items past the end count nothing: at most once in all is at most once each and no two
+-- together.
 use Rattle.std.proofs.Common.{◌≡◌, ◌≢◌, ℕ, zero, suc, ◌+◌, ◌<◌, ◌≤◌, List, [], ◌∷◌, refl, ap, arith, inl, inr}
 use Rattle.std.specs.Prelude.{slice_index_or, sum_by}
 use Rattle.std.proofs.lemmas.Bool.{cases_lt}

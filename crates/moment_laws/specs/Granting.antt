@@ -1,5 +1,6 @@
 -- What is said of runs of pages that are granted.
-use Rattle.std.specs.Prelude.{◌≡◌, ℕ, ◌+◌, ◌<◌, Bool, false, Option, Some, None, List, ◌++◌, length, map}
+use Rattle.std.specs.Prelude.{◌≡◌, ℕ, ◌+◌, ◌<◌, Bool, false, Option, Some, None, List, ◌++◌}
+use Rattle.std.specs.Prelude.{length, map}
 use Rattle.std.specs.List.{AllByRecursion, flat_map}
 use Rattle.geometry_model.specs.Numbers.{Numbers, space_pages}
 use Rattle.geometry_model.specs.Pages.{IsInSpace, place}
@@ -29,12 +30,13 @@ is_among n spaces page = test_at spaces (place n page)
 abbrev pub LiesInSpace : Numbers → Extent → Type 0
 LiesInSpace n run = (s : ℕ) × IsInSpace n s run.page run.pages
 
--- These runs were taken out of the free pages, and these are left: each run lies in one space, and each page that was
--- free is left, or in one of the runs once.
+-- These runs were taken out of the free pages, and these are left: each run lies in one space,
+-- and each page that was free is left, or in one of the runs once.
 pub record Took (n : Numbers) (free : Spaces) (runs : List Extent) (left : Spaces) : Type 0 where
   pub spaces : AreSpaces n left
   pub together : AllByRecursion (LiesInSpace n) runs
-  pub once : (page : ℕ) → count_true (is_among n left page) + uses page runs ≡ count_true (is_among n free page)
+  pub once : (page : ℕ) → count_true (is_among n left page) + uses page runs
+      ≡ count_true (is_among n free page)
 
 -- a page as a run
 abbrev pub page_run : ℕ → Extent
@@ -49,5 +51,5 @@ abbrev pub granted_runs : Grants → List Extent
 granted_runs grants = runs_of_parts grants.runs ++ map page_run grants.pages
 
 -- what was granted, with the pages that are free after it
-abbrev pub got : Grants → Spaces → Answer Grants
-got grants left = Got grants left
+abbrev pub got_grants : Grants → Spaces → Answer Grants
+got_grants grants left = Got grants left

@@ -1,9 +1,9 @@
-//! Laws on moments: in a sound one each page has just one role; soundness object by object; what a change of
-//! one object, and the end of a transaction, keep, and which pages are free and locked after them; what is
-//! granted was free.
+//! Laws on moments: in a sound one each page has just one role; soundness object by object; what a
+//! change of one object, and the end of a transaction, keep, and which pages are free and locked
+//! after them; what is granted was free.
 //!
-//! Each law is a function with no argument and no code, whose clause is the law; the lemmas that crates
-//! above cite stand in `proofs/`.
+//! Each law is a function with no argument and no code, whose clause is the law; the lemmas that
+//! crates above cite stand in `proofs/`.
 #![tactic(auto)]
 
 mod ends;

@@ -7,8 +7,8 @@ use Rattle.tree_model.specs.Tree.{page_count}
 abbrev pub piece_count : Numbers → ℕ → ℕ
 piece_count n bytes = page_count (space_pages n * n.page) bytes
 
--- the most pages that an edit writes, for a payload of so many bytes, the greater height before and after,
--- the threshold before, and the pieces that halving added
+-- the most pages that an edit writes, for a payload of so many bytes, the greater height before
+-- and after, the threshold before, and the pieces that halving added
 abbrev pub cost : Numbers → ℕ → ℕ → ℕ → ℕ → ℕ
 cost n bytes height threshold added =
     page_count n.page bytes + 4 * threshold + 4 + 8 * (height + 1) + piece_count n bytes + added
@@ -23,4 +23,5 @@ segments_met n bytes threshold = 2 * (bytes / ((threshold - 1) * n.page + 1)) + 
 
 -- the most pages that a read of so many bytes reads
 abbrev pub read_cost : Numbers → ℕ → ℕ → ℕ → ℕ
-read_cost n bytes height threshold = page_count n.page bytes + segments_met n bytes threshold * (height + 2)
+read_cost n bytes height threshold =
+    page_count n.page bytes + segments_met n bytes threshold * (height + 2)

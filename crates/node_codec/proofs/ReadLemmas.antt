@@ -1,5 +1,6 @@
 -- A node read place by place: what the tests on a page mean, and what they miss nothing of.
-use Rattle.std.proofs.Common.{◌≡◌, ℕ, zero, suc, ◌+◌, ◌-◌, ◌*◌, ◌^◌, ◌<◌, ◌≤◌, List, [], ◌∷◌, ◌++◌, length, take, drop, replicate, slice_index, refl, sym, ap, subst, ◌∙◌, length-append, arith}
+use Rattle.std.proofs.Common.{◌≡◌, ℕ, zero, suc, ◌+◌, ◌-◌, ◌*◌, ◌^◌, ◌<◌, ◌≤◌, List, [], ◌∷◌, ◌++◌, length, take}
+use Rattle.std.proofs.Common.{drop, replicate, slice_index, refl, sym, ap, subst, ◌∙◌, length-append, arith}
 use Rattle.std.specs.List.{AllByRecursion, flat_map}
 use Rattle.std.specs.Int.{w16, w32, w64, to_be_bytes, from_be_bytes}
 use Rattle.std.proofs.lemmas.List.{drop-drop, length-drop, take-append-drop}
@@ -8,7 +9,7 @@ use Rattle.std.proofs.lemmas.Nat.{from_be_bytes-to_be_bytes_2}
 use Rattle.byteorder.specs.Endian.{big_from}
 use Rattle.tree_model.specs.declared.entry.Pair.{Pair}
 use Rattle.tree_model.specs.Node.{IsPair, NodeBytes, pair_bytes, head_bytes, pair_in, pairs_in}
-use Rattle.tree_model.proofs.NodeLemmas.{length-pair_bytes, node_in-level, node_in-pairs, pairs_in-flat_map}
+use Rattle.tree_model.proofs.NodeLemmas.{drop-head, length-pair_bytes, node_in-level, node_in-pairs, pairs_in-flat_map}
 use Rattle.node_codec.specs.Head.{IsHead}
 use Rattle.node_codec.proofs.NumberLemmas.{AreBytes, AreBytes-drop, big4, big8, fits2, fits4, fits8, bytes2, bytes4, bytes8, take-sum}
 
@@ -107,7 +108,8 @@ NodeBytes-read page count h head each blank =
     let some = head.some in
     let fits : count < 2 ^ 16 = subst (λ (n : ℕ). n < 2 ^ 16) (sym head.counted) (fits2 (drop 2 page) (AreBytes-drop 2 page h)) in
     let pairs = flat_map-pairs_in count body (omega (arith, length-drop 8 page)) body_bytes in
-    let whole : page ≡ head_bytes (slice_index page 1) count ++ (flat_map pair_bytes (pairs_in count body) ++ replicate (length page - (8 + 12 * count)) 0) =
+    let whole : page ≡ head_bytes (slice_index page 1) count
+    ++ (flat_map pair_bytes (pairs_in count body) ++ replicate (length page - (8 + 12 * count)) 0) =
     sym (take-append-drop 8 page)
     ∙ ap (λ (x : List ℕ). x ++ drop 8 page) (sym (head-read page count h head))
     ∙ ap (λ (x : List ℕ). head_bytes (slice_index page 1) count ++ x)
@@ -123,7 +125,8 @@ NodeBytes-read page count h head each blank =
         count_fits = omega arith;
         each = pairs_in-IsPair count body body_bytes later;
       };
-      bytes = whole ∙ ap (λ (n : ℕ). head_bytes (slice_index page 1) n ++ (flat_map pair_bytes (pairs_in count body) ++ replicate (length page - (8 + 12 * n)) 0)) (sym number);
+      bytes = whole ∙ ap (λ (n : ℕ). head_bytes (slice_index page 1) n
+          ++ (flat_map pair_bytes (pairs_in count body) ++ replicate (length page - (8 + 12 * n)) 0)) (sym number);
     }
 
 -- a page that holds a node has its head
@@ -154,10 +157,6 @@ pairs_in-at (suc n) bs (suc k) l each =
     let f : 12 * suc k ≡ 12 + 12 * k = omega arith in
     let P : List ℕ → Type 0 = λ xs. 1 ≤ from_be_bytes w64 xs in
     subst P (drop-drop (12 * k) 12 bs ∙ ap (λ (i : ℕ). drop i bs) (sym f)) (pairs_in-at n (drop 12 bs) k (omega arith) each.1)
-
-drop-head : (level count : ℕ) (rest : List ℕ) → drop 8 (head_bytes level count ++ rest) ≡ rest
-unfolding head_bytes
-drop-head level count rest = refl
 
 -- what follows the head of a node's page
 body-NodeBytes : (page : List ℕ) (level : ℕ) (pairs : List Pair) → NodeBytes page level pairs

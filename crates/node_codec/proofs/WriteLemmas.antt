@@ -1,5 +1,6 @@
 -- A page written part by part.
-use Rattle.std.proofs.Common.{◌≡◌, ℕ, ◌+◌, ◌-◌, ◌*◌, ◌<◌, List, [], ◌∷◌, ◌++◌, length, take, replicate, get_or, sym, ap, subst, ◌∙◌, append_assoc, arith}
+use Rattle.std.proofs.Common.{◌≡◌, ℕ, ◌+◌, ◌-◌, ◌*◌, ◌<◌, List, [], ◌∷◌, ◌++◌, length, take, replicate, get_or, sym}
+use Rattle.std.proofs.Common.{ap, subst, ◌∙◌, append_assoc, arith}
 use Rattle.std.specs.List.{AllByRecursion, flat_map}
 use Rattle.std.proofs.lemmas.List.{flat_map_more, take_more, take_all}
 use Rattle.tree_model.specs.declared.entry.Pair.{Pair}
@@ -53,7 +54,8 @@ NodeBytes-written level at i items old new all place written whole same sound =
     let end : at ≡ 8 + 12 * length items = place ∙ ap (λ (n : ℕ). 8 + 12 * n) all in
     let front : take at old ≡ head ++ body =
     ap (λ (n : ℕ). take n old) place ∙ written
-    ∙ ap (λ (r : List Pair). head ++ flat_map pair_bytes r) (ap (λ (n : ℕ). take n items) all ∙ take_all (length items) items (omega arith)) in
+    ∙ ap (λ (r : List Pair). head ++ flat_map pair_bytes r)
+    (ap (λ (n : ℕ). take n items) all ∙ take_all (length items) items (omega arith)) in
     let tail : length old - at ≡ length new - (8 + 12 * length items) = omega arith in
     record {
       sound = sound;

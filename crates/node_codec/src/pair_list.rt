@@ -90,7 +90,8 @@ impl Pairs {
         self.list.push_reserved(pair);
     }
 
-    /// Takes on the pairs of a slice in place of its own. It takes no memory: there is room for them.
+    /// Takes on the pairs of a slice in place of its own. It takes no memory: there is room for
+    /// them.
     pub fn copy_from(&mut self, pairs: &[Pair])
         requires { length pairs.now ≤ self.old.room }
         ensures items { self.new.items ≡ pairs.now }

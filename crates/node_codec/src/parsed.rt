@@ -42,7 +42,8 @@ impl Node {
         })
     }
 
-    /// Takes on the level and the pairs of another node. It takes no memory: there is room for them.
+    /// Takes on the level and the pairs of another node. It takes no memory: there is room for
+    /// them.
     pub fn copy_from(&mut self, other: &Node)
         requires { length other.now.pairs.items ≤ self.old.pairs.room }
         ensures level { self.new.level ≡ other.now.level }

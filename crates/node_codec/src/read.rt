@@ -1,6 +1,7 @@
 //! A node read from the bytes of a page.
 
-ghost use Rattle.std.specs.Prelude.{◌≡◌, ℕ, ◌+◌, ◌-◌, ◌*◌, ◌<◌, ◌≤◌, ◌↔◌, List, length, drop, replicate, IsTrue, IsOk, IfSome, IfNone, OnOk, OnErr};
+ghost use Rattle.std.specs.Prelude.{◌≡◌, ℕ, ◌+◌, ◌-◌, ◌*◌, ◌<◌, ◌≤◌, ◌↔◌, List, length, drop};
+ghost use Rattle.std.specs.Prelude.{replicate, IsTrue, IsOk, IfSome, IfNone, OnOk, OnErr};
 ghost use Rattle.std.specs.Int.{w16, w32, w64, from_be_bytes};
 ghost use Rattle.tree_model.specs.declared.entry.Pair.{Pair as TreePair};
 ghost use Rattle.tree_model.specs.Node.{NodeBytes, pair_in, pairs_in, room_of};
@@ -54,7 +55,8 @@ fn count_of(page: &[u8]) -> Option<usize>
 /// Does each of the first `count` pairs have a byte under it?
 fn has_bytes_under_each(page: &[u8], count: usize) -> bool
     requires { 8 + 12 * count ≤ length page.now }
-    ensures { IsTrue result ↔ ((k : ℕ) → k < count → 1 ≤ from_be_bytes w64 (drop (8 + 12 * k) page.now)) }
+    ensures { IsTrue result ↔ ((k : ℕ) → k < count →
+        1 ≤ from_be_bytes w64 (drop (8 + 12 * k) page.now)) }
 {
     for i in 0..count {
         if BigEndian::read_u64(&page[8 + 12 * i..]) == 0 {

@@ -38,8 +38,8 @@ fn a_page_is_read_back(rt: HostRuntime) {
 
 #[test]
 fn one_byte_off_is_refused(rt: HostRuntime) {
-    // The mark, no level, no pair, more pairs than fit, the four zeros, no byte under the pair, and a
-    // byte behind the pairs.
+    // The mark, no level, no pair, more pairs than fit, the four zeros, no byte under the pair, and
+    // a byte behind the pairs.
     let cases = [
         (0, 0x4f),
         (1, 0),

@@ -1,6 +1,7 @@
 //! The bytes of a node, written to a page.
 
-ghost use Rattle.std.specs.Prelude.{◌≡◌, ◌+◌, ◌-◌, ◌^◌, ◌<◌, ◌≤◌, ◌++◌, length, take, replicate, All, IsTrue};
+ghost use Rattle.std.specs.Prelude.{◌≡◌, ◌+◌, ◌-◌, ◌^◌, ◌<◌, ◌≤◌, ◌++◌, length, take, replicate};
+ghost use Rattle.std.specs.Prelude.{All, IsTrue};
 ghost use Rattle.geometry_model.specs.Numbers.{is_page_size};
 ghost use Rattle.tree_model.specs.Node.{NodeBytes, head_bytes, pair_bytes, room_of};
 

@@ -1,28 +1,16 @@
--- One slot of a list after a write of one slot.
-use Rattle.std.proofs.Common.{◌≡◌, ◌≢◌, ℕ, zero, suc, ◌<◌, ◌∷◌, [], List, length, refl, ap, slice_get, slice_set, Some, None, Option, arith, sym, ◌∙◌, subst, inl, inr}
+-- Which slots keep the terms after a take or a put, and what a take answers.
+use Rattle.std.proofs.Common.{◌≡◌, ℕ, ◌<◌, List, length, refl, slice_get, slice_set, Some, None, Option, sym, ◌∙◌, subst, inl, inr}
 use Rattle.std.proofs.lemmas.Bool.{cases_eq}
 use Rattle.std.specs.Option.{ok_or}
 use Rattle.std.specs.Prelude.{IfOk, IsErr, ◌↔◌}
+use Rattle.base_laws.proofs.ListLaws.{slice_get-set_same, slice_get-set_other}
 use Rattle.eos_ops.specs.declared.plain.Plain.{Plain}
 use Rattle.object_locks.specs.Shelving.{Terms, Suits}
 use Rattle.object_locks.specs.Solo.{AreSuited}
 
--- the slot that was written
-pub slice_get-set_same : {X : Type 0} (xs : List X) (i : ℕ) (x : X) → i < length xs → slice_get (slice_set xs i x) i ≡ Some x
-slice_get-set_same [] i x within = absurd (omega arith)
-slice_get-set_same (y ∷ ys) zero x within = refl
-slice_get-set_same (y ∷ ys) (suc i) x within = slice_get-set_same ys i x (omega arith)
-
--- the others
-pub slice_get-set_other : {X : Type 0} (xs : List X) (i j : ℕ) (x : X) → j ≢ i → slice_get (slice_set xs i x) j ≡ slice_get xs j
-slice_get-set_other [] i j x other = refl
-slice_get-set_other (y ∷ ys) zero zero x other = absurd (other refl)
-slice_get-set_other (y ∷ ys) zero (suc j) x other = refl
-slice_get-set_other (y ∷ ys) (suc i) zero x other = refl
-slice_get-set_other (y ∷ ys) (suc i) (suc j) x other = slice_get-set_other ys i j x (λ e. other (ap suc e))
-
 -- a write of a slot keeps the terms where what is written keeps them
-pub AreSuited-set : {T : Type 0} (frame : T → List ℕ) (legal : Plain → T → Type 0) (slots : List (Option T)) (t : Terms) (o : ℕ) (slot : Option T)
+pub AreSuited-set : {T : Type 0} (frame : T → List ℕ) (legal : Plain → T → Type 0) (slots : List (Option T))
+    (t : Terms) (o : ℕ) (slot : Option T)
     → AreSuited frame legal slots t → o < length slots → ((value : T) → slot ≡ Some value → Suits frame legal t o value)
     → AreSuited frame legal (slice_set slots o slot) t
 AreSuited-set frame legal slots t o slot each within here q value found =
@@ -40,13 +28,15 @@ AreSuited-take frame legal slots t o each within = AreSuited-set frame legal slo
 
 -- a value that keeps the terms may lie in its slot
 pub AreSuited-put : {T : Type 0} (frame : T → List ℕ) (legal : Plain → T → Type 0) (slots : List (Option T)) (t : Terms) (o : ℕ) (value : T)
-    → AreSuited frame legal slots t → o < length slots → Suits frame legal t o value → AreSuited frame legal (slice_set slots o (Some value)) t
+    → AreSuited frame legal slots t → o < length slots → Suits frame legal t o value →
+    AreSuited frame legal (slice_set slots o (Some value)) t
 AreSuited-put frame legal slots t o value each within suits =
     AreSuited-set frame legal slots t o (Some value) each within
     (λ v e. let same : value ≡ v = cc in subst (Suits frame legal t o) same suits)
 
 -- what a take answers, of a slot that holds `found`: a value that keeps the terms
-pub taken-suits : {T E : Type 0} (frame : T → List ℕ) (legal : Plain → T → Type 0) (slots : List (Option T)) (o : ℕ) (found : Option T) (e : E)
+pub taken-suits : {T E : Type 0} (frame : T → List ℕ) (legal : Plain → T → Type 0) (slots : List (Option T)) (o : ℕ)
+    (found : Option T) (e : E)
     → slice_get slots o ≡ Some found
     → IfOk (ok_or found e) (λ value. (t : Terms) → AreSuited frame legal slots t → Suits frame legal t o value)
 taken-suits frame legal slots o (Some value) e in_slot = λ t each. each o value in_slot

@@ -1,5 +1,7 @@
 -- What a shelf shows of itself, and what a take and a put change of it.
-use Rattle.std.specs.Prelude.{◌≡◌, ◌≢◌, ℕ, ◌+◌, ◌-◌, ◌≤◌, max, List, [], ◌∷◌, ◌++◌, length, drop, All, Option, Some, None, IsSome, IsSomeAnd, IfSome, OnSome, slice_get, slice_set, slice_index_or}
+use Rattle.std.specs.Prelude.{◌≡◌, ◌≢◌, ℕ, ◌+◌, ◌-◌, ◌≤◌, max, List, [], ◌∷◌, ◌++◌, length, drop}
+use Rattle.std.specs.Prelude.{All, Option, Some, None, IsSome, IsSomeAnd, IfSome, OnSome}
+use Rattle.std.specs.Prelude.{slice_get, slice_set, slice_index_or}
 use Rattle.std.specs.Option.{option_map, option_map_or, option_flatten}
 use Rattle.atomic_table.specs.Seated.{TableId}
 use Rattle.eos_ops.specs.declared.end.End.{End}
@@ -12,14 +14,17 @@ pub record Terms : Type 0 where
   pub frame : List ℕ
   pub opened : List Plain
 
--- a value, as object o, keeps the terms: it has the frame, and its history is one from the contents at opening
-pub record Suits {T : Type 0} (frame : T → List ℕ) (legal : Plain → T → Type 0) (t : Terms) (o : ℕ) (value : T) : Type 0 where
+-- a value, as object o, keeps the terms: it has the frame, and its history is one from the
+-- contents at opening
+pub record Suits {T : Type 0} (frame : T → List ℕ) (legal : Plain → T → Type 0) (t : Terms)
+    (o : ℕ) (value : T) : Type 0 where
   pub framed : frame value ≡ t.frame
   pub history : legal (slice_index_or t.opened o Absent) value
 
--- What a shelf tells of its past: the ends that it has put, each with its object, and the objects of its
--- successful and of its refused takes, all in order. The reach is the greatest stamp that it has seen in an
--- object or put, the count the number of the last transaction that it has put an end of.
+-- What a shelf tells of its past: the ends that it has put, each with its object, and the objects
+-- of its successful and of its refused takes, all in order. The reach is the greatest stamp that
+-- it has seen in an object or put, the count the number of the last transaction that it has put
+-- an end of.
 pub record Log : Type 0 where
   pub made : List (ℕ × End)
   pub taken : List ℕ
@@ -27,9 +32,10 @@ pub record Log : Type 0 where
   pub reach : ℕ
   pub count : ℕ
 
--- What a shelf shows: how many objects there are; the one session that it serves, or none; the table that it is
--- a seat of, or none; for each object that is out with it the ends that the value had when it was taken, where
--- the shelf knows them; the values that are home, where they are told; its past, where it is told.
+-- What a shelf shows: how many objects there are; the one session that it serves, or none; the
+-- table that it is a seat of, or none; for each object that is out with it the ends that the
+-- value had when it was taken, where the shelf knows them; the values that are home, where they
+-- are told; its past, where it is told.
 pub record Shelving (T : Type 0) : Type 0 where
   pub objects : ℕ
   pub session : Option ℕ
@@ -57,7 +63,11 @@ with_refusal o g = record g { refused = g.refused ++ o ∷ [] }
 -- a put adds the ends that the value has got since it was taken, at most one
 abbrev pub with_put : ℕ → List End → Log → Log
 with_put o [] g = g
-with_put o (e ∷ more) g = record g { made = g.made ++ (o, e) ∷ []; reach = max g.reach e.stamp; count = e.number }
+with_put o (e ∷ more) g = record g {
+  made = g.made ++ (o, e) ∷ [];
+  reach = max g.reach e.stamp;
+  count = e.number;
+}
 
 -- the ends that a list has more than it had, where both are told
 abbrev pub added_ends : Option (List End) → Option (List End) → List End
@@ -65,9 +75,10 @@ added_ends None now = []
 added_ends (Some was) None = []
 added_ends (Some was) (Some now) = drop (length was) now
 
--- A take of object o that succeeded: a value with these ends came out. A shelf that tells its past has objects that
--- tell their ends.
-pub record IsTake {T : Type 0} (ends : Option (List End)) (o : ℕ) (value : T) (old new : Shelving T) : Type 0 where
+-- A take of object o that succeeded: a value with these ends came out. A shelf that tells its
+-- past has objects that tell their ends.
+pub record IsTake {T : Type 0} (ends : Option (List End)) (o : ℕ) (value : T)
+    (old new : Shelving T) : Type 0 where
   pub same : IsSameShelf old new
   pub free : old.out o ≡ None
   pub out : IsSomeAnd (new.out o) (λ known. IfSome known (λ taken. ends ≡ Some taken))
@@ -82,7 +93,8 @@ abbrev pub refused_take : {T : Type 0} → ℕ → Shelving T → Shelving T
 refused_take o s = record s { log = option_map (with_refusal o) s.log }
 
 -- a put of object o: its value is home
-pub record IsPut {T : Type 0} (ends : Option (List End)) (o : ℕ) (value : T) (old new : Shelving T) : Type 0 where
+pub record IsPut {T : Type 0} (ends : Option (List End)) (o : ℕ) (value : T)
+    (old new : Shelving T) : Type 0 where
   pub same : IsSameShelf old new
   pub gone : new.out o ≡ None
   pub others : (q : ℕ) → q ≢ o → new.out q ≡ old.out q
@@ -95,8 +107,10 @@ pub record MayAdd {T : Type 0} (shelf : Shelving T) (e : End) : Type 0 where
   pub number : IfSome shelf.log (λ g. g.count ≤ e.number)
   pub stamp : IfSome shelf.log (λ g. e.stamp ≤ g.reach + (e.number - g.count))
 
--- what the ends may be that a value comes back with: those that it was taken with, and at most one more
-pub record MayGrow {T : Type 0} (shelf : Shelving T) (was : List End) (ends : Option (List End)) : Type 0 where
+-- what the ends may be that a value comes back with: those that it was taken with, and at most
+-- one more
+pub record MayGrow {T : Type 0} (shelf : Shelving T) (was : List End)
+    (ends : Option (List End)) : Type 0 where
   pub added : List End
   pub grown : ends ≡ Some (was ++ added)
   pub one : length added ≤ 1

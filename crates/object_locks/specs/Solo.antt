@@ -1,5 +1,6 @@
 -- What a shelf for one thread shows: its slots.
-use Rattle.std.specs.Prelude.{◌≡◌, ◌<◌, ◌≤◌, ◌^◌, ℕ, List, [], length, All, Option, Some, None, IfSome, slice_get}
+use Rattle.std.specs.Prelude.{◌≡◌, ◌<◌, ◌≤◌, ◌^◌, ℕ, List, [], length, All, Option, Some, None}
+use Rattle.std.specs.Prelude.{IfSome, slice_get}
 use Rattle.eos_ops.specs.declared.end.End.{End}
 use Rattle.eos_ops.specs.declared.plain.Plain.{Plain}
 use Rattle.object_locks.specs.Shelving.{Shelving, Terms, Suits}
@@ -22,12 +23,15 @@ solo_shelving slots = record {
 }
 
 -- each value that is home keeps the terms
-abbrev pub AreSuited : {T : Type 0} → (T → List ℕ) → (Plain → T → Type 0) → List (Option T) → Terms → Type 0
-AreSuited {T} frame legal slots t = (o : ℕ) (value : T) → slice_get slots o ≡ Some (Some value) → Suits frame legal t o value
+abbrev pub AreSuited : {T : Type 0} → (T → List ℕ) → (Plain → T → Type 0) → List (Option T) →
+    Terms → Type 0
+AreSuited {T} frame legal slots t = (o : ℕ) (value : T) → slice_get slots o ≡ Some (Some value) →
+    Suits frame legal t o value
 
--- Slots as a shelf keeps them: few enough for their numbers, what is home is at rest, and a vector beside them is
--- empty and has room for all objects.
-pub record IsSolo {T : Type 0} (rests : T → Type 0) (slots : List (Option T)) (beside : List T) (capacity : ℕ) : Type 0 where
+-- Slots as a shelf keeps them: few enough for their numbers, what is home is at rest, and a
+-- vector beside them is empty and has room for all objects.
+pub record IsSolo {T : Type 0} (rests : T → Type 0) (slots : List (Option T)) (beside : List T)
+    (capacity : ℕ) : Type 0 where
   pub count : length slots < 2 ^ 32
   pub at_rest : All (λ slot. IfSome slot rests) slots
   pub emptied : beside ≡ []

@@ -1,8 +1,8 @@
 //! Who holds an object: exclusive locks on a numbered set of objects.
 //!
-//! A shelf hands an object out to one holder at a time and takes it back. The holder owns the object
-//! meanwhile, so nobody else can look at it. `Shelf` is the contract; `SoloShelf` meets it for one
-//! thread.
+//! A shelf hands an object out to one holder at a time and takes it back. The holder owns the
+//! object meanwhile, so nobody else can look at it. `Shelf` is the contract; `SoloShelf` meets it
+//! for one thread.
 #![tactic(auto)]
 
 mod aged;

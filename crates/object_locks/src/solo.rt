@@ -45,7 +45,8 @@ impl<T: Aged> Shelf<T> for SoloShelf<T> {
 }
 
 impl<T: Aged> SoloShelf<T> {
-    /// A shelf of these objects, that at index `o` as object `o`. Where memory is refused, they come back.
+    /// A shelf of these objects, that at index `o` as object `o`. Where memory is refused, they
+    /// come back.
     pub fn new(alloc: Global, objects: Vec<T>) -> Result<SoloShelf<T>, Vec<T>>
         requires fits { vec_len objects < 2 ^ 32 }
         requires rests { All T.rests objects.items }

@@ -1,9 +1,13 @@
 //! The cache: a map of bounded size from pages to nodes, over `lru`.
 
-ghost use Rattle.std.specs.Prelude.{◌≡◌, ◌≢◌, ℕ, ◌≤◌, ◌↔◌, ◌⊎◌, [], length, IsTrue, IsSome, IfOk, IfSome, IsSomeAnd, Some, None, false, nat_eq};
+ghost use Rattle.std.specs.Prelude.{◌≡◌, ◌≢◌, ℕ, ◌+◌, ◌<◌, ◌≤◌, ◌↔◌, ◌⊎◌, List, [], ◌∷◌, ◌++◌};
+ghost use Rattle.std.specs.Prelude.{length, not, IsTrue, IsSome, IfOk, IfSome, Some, None, false};
+ghost use Rattle.std.specs.Prelude.{nat_eq, if◌then◌else◌};
+ghost use Rattle.std.specs.List.{filter};
 ghost use Rattle.std.specs.Map.{lookup, remove_entry};
 ghost use Rattle.lru.specs.LruCache.{promoted, put_entries};
-ghost use Rattle.page_cache.specs.Kept.{kept, IsNodeOf, KeepsSame, IsPutIn};
+ghost use Rattle.node_codec.specs.declared.parsed.Node.{Node};
+ghost use Rattle.page_cache.specs.Kept.{kept, IsNodeOf, KeepsSame, IsPutIn, is_on_run};
 
 use lru::LruCache;
 use node_codec::Node;
@@ -27,7 +31,8 @@ impl Model for Cache {
 
     ghost view = { λ c. record { entries = c.nodes.entries; capacity = c.capacity } };
 
-    ghost invariant = { λ c. (length c.nodes.entries ≤ c.capacity) × (c.nodes.cap ≡ max c.capacity 1) };
+    ghost invariant = { λ c. (length c.nodes.entries ≤ c.capacity)
+        × (c.nodes.cap ≡ max c.capacity 1) };
 }
 
 impl Cache {
@@ -48,7 +53,8 @@ impl Cache {
     /// Copies the node that is kept for a page, and says whether there is one. It takes no memory:
     /// `into` has room for the node. What is kept is as before, and this node is the one used last.
     pub fn get(&mut self, page: u32, into: &mut Node) -> bool
-        requires { IfSome (kept self.old page) (λ node. length node.pairs.items ≤ into.old.pairs.room) }
+        requires { IfSome (kept self.old page)
+            (λ node. length node.pairs.items ≤ into.old.pairs.room) }
         ensures found { IsTrue result ↔ IsSome (kept self.old page) }
         ensures node { IfSome (kept self.old page) (λ node. IsNodeOf into.new node) }
         ensures missed { result ≡ false → into.new ≡ into.old }
@@ -59,22 +65,24 @@ impl Cache {
         find(&mut self.nodes, page, into)
     }
 
-    /// Keeps a copy of a page's node, the one used last. Where there would be too many, the one used
-    /// longest ago is dropped. Where there is no memory for the copy, all is as before.
+    /// Keeps a copy of a page's node, the one used last. Where there would be too many, the one
+    /// used longest ago is dropped. Where there is no memory for the copy, none is kept for the
+    /// page: an older node of the page never stays.
     pub fn keep(&mut self, page: u32, node: &Node)
         ensures others { (q : ℕ) → q ≢ page
             → IfSome (kept self.new q) (λ other. kept self.old q ≡ Some other) }
-        ensures node { KeepsSame self.old self.new ⊎ IsSomeAnd (kept self.new page) (IsNodeOf node.now) }
-        ensures put { (self.new ≡ self.old) ⊎ IsPutIn self.old self.new page node.now }
+        ensures node { IfSome (kept self.new page) (IsNodeOf node.now) }
+        ensures put { (self.new.entries ≡ remove_entry (nat_eq page) self.old.entries)
+            ⊎ IsPutIn self.old self.new page node.now }
         ensures few { length self.new.entries ≤ self.new.capacity }
         ensures capacity { self.new.capacity ≡ self.old.capacity }
     {
-        if self.capacity == 0 {
-            return;
+        if self.capacity > 0 {
+            if let Ok(copy) = node.copy(self.alloc) {
+                return store(&mut self.nodes, page, copy);
+            }
         }
-        if let Ok(copy) = node.copy(self.alloc) {
-            store(&mut self.nodes, page, copy);
-        }
+        take_out(&mut self.nodes, page);
     }
 
     /// Drops the node that is kept for a page, if there is one. It takes no memory.
@@ -86,16 +94,32 @@ impl Cache {
     {
         take_out(&mut self.nodes, page);
     }
+
+    /// Drops the nodes that are kept for the `pages` pages from `first` on. It looks at each node
+    /// that is kept once, however long the run is. It takes no memory.
+    pub fn forget_run(&mut self, first: u32, pages: u32)
+        ensures gone { (q : ℕ) → first ≤ q → q < first + pages → kept self.new q ≡ None }
+        ensures others { (q : ℕ) → (q < first) ⊎ (first + pages ≤ q) →
+            kept self.new q ≡ kept self.old q }
+        ensures order { self.new.entries
+            ≡ filter (λ e. not (is_on_run first pages e.0)) self.old.entries }
+        ensures capacity { self.new.capacity ≡ self.old.capacity }
+    {
+        take_run_out(&mut self.nodes, first, pages);
+    }
 }
 
 /// Copies the node that is stored for a page, which is then the one used last.
 fn find(nodes: &mut LruCache<u32, Node>, page: u32, into: &mut Node) -> bool
-    requires { IfSome (lookup (nat_eq page) nodes.old.entries) (λ node. length node.pairs.items ≤ into.old.pairs.room) }
+    requires { IfSome (lookup (nat_eq page) nodes.old.entries)
+        (λ node. length node.pairs.items ≤ into.old.pairs.room) }
     ensures found { IsTrue result ↔ IsSome (lookup (nat_eq page) nodes.old.entries) }
-    ensures node { IfSome (lookup (nat_eq page) nodes.old.entries) (λ node. IsNodeOf into.new node) }
+    ensures node { IfSome (lookup (nat_eq page) nodes.old.entries)
+        (λ node. IsNodeOf into.new node) }
     ensures missed { result ≡ false → into.new ≡ into.old }
     ensures room { into.new.pairs.room ≡ into.old.pairs.room }
-    ensures same { (q : ℕ) → lookup (nat_eq q) nodes.new.entries ≡ lookup (nat_eq q) nodes.old.entries }
+    ensures same { (q : ℕ) → lookup (nat_eq q) nodes.new.entries
+        ≡ lookup (nat_eq q) nodes.old.entries }
     ensures used { nodes.new.entries ≡ promoted (nat_eq page) nodes.old.entries }
     ensures count { length nodes.new.entries ≡ length nodes.old.entries }
     ensures capacity { nodes.new.cap ≡ nodes.old.cap }
@@ -106,9 +130,11 @@ fn find(nodes: &mut LruCache<u32, Node>, page: u32, into: &mut Node) -> bool
 
 /// Copies the node that is stored for a page.
 fn copy_of(nodes: &LruCache<u32, Node>, page: u32, into: &mut Node) -> bool
-    requires { IfSome (lookup (nat_eq page) nodes.now.entries) (λ node. length node.pairs.items ≤ into.old.pairs.room) }
+    requires { IfSome (lookup (nat_eq page) nodes.now.entries)
+        (λ node. length node.pairs.items ≤ into.old.pairs.room) }
     ensures found { IsTrue result ↔ IsSome (lookup (nat_eq page) nodes.now.entries) }
-    ensures node { IfSome (lookup (nat_eq page) nodes.now.entries) (λ node. IsNodeOf into.new node) }
+    ensures node { IfSome (lookup (nat_eq page) nodes.now.entries)
+        (λ node. IsNodeOf into.new node) }
     ensures missed { result ≡ false → into.new ≡ into.old }
     ensures room { into.new.pairs.room ≡ into.old.pairs.room }
 {
@@ -121,27 +147,30 @@ fn copy_of(nodes: &LruCache<u32, Node>, page: u32, into: &mut Node) -> bool
     }
 }
 
-/// Stores a page's node, and drops the one used longest ago where there would be too many.
+/// Stores a page's node, and drops the one used longest ago where there would be too many. Where
+/// there is no memory, no node is stored for the page.
 fn store(nodes: &mut LruCache<u32, Node>, page: u32, node: Node)
     requires some { 1 ≤ nodes.old.cap }
     requires few { length nodes.old.entries ≤ nodes.old.cap }
     ensures others { (q : ℕ) → q ≢ page → IfSome (lookup (nat_eq q) nodes.new.entries)
         (λ other. lookup (nat_eq q) nodes.old.entries ≡ Some other) }
-    ensures node { (nodes.new ≡ nodes.old) ⊎ (lookup (nat_eq page) nodes.new.entries ≡ Some node) }
-    ensures put { (nodes.new ≡ nodes.old) ⊎ (nodes.new.entries ≡ put_entries nat_eq nodes.old page node) }
+    ensures node { IfSome (lookup (nat_eq page) nodes.new.entries) (λ stored. stored ≡ node) }
+    ensures put { (nodes.new.entries ≡ remove_entry (nat_eq page) nodes.old.entries)
+        ⊎ (nodes.new.entries ≡ put_entries nat_eq nodes.old page node) }
     ensures few { length nodes.new.entries ≤ nodes.new.cap }
     ensures capacity { nodes.new.cap ≡ nodes.old.cap }
 {
     match nodes.put(page, node) {
         Ok(_) => (),
-        Err(_) => (),
+        Err(_) => take_out(nodes, page),
     }
 }
 
 /// Takes out the node that is stored for a page.
 fn take_out(nodes: &mut LruCache<u32, Node>, page: u32)
     ensures gone { lookup (nat_eq page) nodes.new.entries ≡ None }
-    ensures others { (q : ℕ) → q ≢ page → lookup (nat_eq q) nodes.new.entries ≡ lookup (nat_eq q) nodes.old.entries }
+    ensures others { (q : ℕ) → q ≢ page →
+        lookup (nat_eq q) nodes.new.entries ≡ lookup (nat_eq q) nodes.old.entries }
     ensures order { nodes.new.entries ≡ remove_entry (nat_eq page) nodes.old.entries }
     ensures fewer { length nodes.new.entries ≤ length nodes.old.entries }
     ensures capacity { nodes.new.cap ≡ nodes.old.cap }
@@ -149,4 +178,45 @@ fn take_out(nodes: &mut LruCache<u32, Node>, page: u32)
     if nodes.len() > 0 {
         let _ = nodes.pop(&page);
     }
+}
+
+/// Takes out the nodes that are stored for the pages of a run: each node is looked at once, from
+/// the one used longest ago on, and those that stay are made the one used last, in turn.
+fn take_run_out(nodes: &mut LruCache<u32, Node>, first: u32, pages: u32)
+    ensures order { nodes.new.entries
+        ≡ filter (λ e. not (is_on_run first pages e.0)) nodes.old.entries }
+    ensures fewer { length nodes.new.entries ≤ length nodes.old.entries }
+    ensures capacity { nodes.new.cap ≡ nodes.old.cap }
+{
+    for _turn in 0..nodes.len() {
+        turn(nodes, first, pages);
+    }
+}
+
+/// Takes out the node that was used longest ago where its page lies in the run, and else makes it
+/// the one used last.
+fn turn(nodes: &mut LruCache<u32, Node>, first: u32, pages: u32)
+    ensures turned { (before : List (ℕ × Node)) (last : ℕ × Node) →
+        nodes.old.entries ≡ before ++ last ∷ []
+        → nodes.new.entries ≡ (if is_on_run first pages last.0 then before else last ∷ before) }
+    ensures capacity { nodes.new.cap ≡ nodes.old.cap }
+{
+    // No two nodes are stored for one page.
+    let _count = nodes.len();
+    let last = match nodes.peek_lru() {
+        Some((page, _)) => *page,
+        None => return,
+    };
+    if lies_on(first, pages, last) {
+        let _ = nodes.pop_lru();
+    } else {
+        nodes.promote(&last);
+    }
+}
+
+/// Is a page one of the `pages` pages from `first` on?
+fn lies_on(first: u32, pages: u32, page: u32) -> bool
+    ensures { result ≡ is_on_run first pages page }
+{
+    first <= page && page - first < pages
 }

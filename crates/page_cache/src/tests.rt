@@ -78,3 +78,39 @@ fn a_cache_without_room_keeps_nothing(rt: HostRuntime) {
     keep_one(&mut cache, 5, &one_pair(&rt, rt.alloc(), 5));
     assert_eq!(rt; level_kept(&rt, rt.alloc(), &mut cache, 5), 0);
 }
+
+/// A cache that kept a node for each of the pages 1 to 4, the page's number its level, and then
+/// forgot a run of pages.
+fn without_run(rt: &impl Abort, alloc: Global, first: u32, pages: u32) -> Cache
+    ensures { HaveAtMost 1 result }
+{
+    let mut cache = cache_of(rt, alloc, 4);
+    keep_one(&mut cache, 1, &one_pair(rt, alloc, 1));
+    keep_one(&mut cache, 2, &one_pair(rt, alloc, 2));
+    keep_one(&mut cache, 3, &one_pair(rt, alloc, 3));
+    keep_one(&mut cache, 4, &one_pair(rt, alloc, 4));
+    cache.forget_run(first, pages);
+    cache
+}
+
+#[test]
+fn a_forgotten_run_has_no_node(rt: HostRuntime) {
+    let cases = [
+        (0, 8, [0, 0, 0, 0]),
+        (2, 2, [1, 0, 0, 4]),
+        (2, 4_294_967_294, [1, 0, 0, 0]),
+        (4, 1, [1, 2, 3, 0]),
+        (2, 0, [1, 2, 3, 4]),
+        (5, 9, [1, 2, 3, 4]),
+    ];
+    for (first, pages, want) in cases {
+        let mut cache = without_run(&rt, rt.alloc(), first, pages);
+        let left = [
+            level_kept(&rt, rt.alloc(), &mut cache, 1),
+            level_kept(&rt, rt.alloc(), &mut cache, 2),
+            level_kept(&rt, rt.alloc(), &mut cache, 3),
+            level_kept(&rt, rt.alloc(), &mut cache, 4),
+        ];
+        assert_eq!(rt; left, want, "{first} {pages}");
+    }
+}

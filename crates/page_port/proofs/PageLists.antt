@@ -1,10 +1,13 @@
 -- Lists of pages: one page more of a run, and the step of an iterator over a list of buffers.
-use Rattle.std.proofs.Common.{◌≡◌, ℕ, ◌+◌, ◌-◌, ◌*◌, ◌<◌, ◌≤◌, List, [], ◌∷◌, ◌++◌, length, take, drop, get_or, map, refl, ap, sym, ◌∙◌, subst, arith, All, Option, Some, None, Vec, MatchOption, append-nil, take-add, add-zero, mul-le-mul_right}
+use Rattle.std.proofs.Common.{◌≡◌, ℕ, ◌+◌, ◌-◌, ◌*◌, ◌<◌, ◌≤◌, List, [], ◌∷◌, ◌++◌, length, take, drop, get_or, map}
+use Rattle.std.proofs.Common.{refl, ap, sym, ◌∙◌, subst, arith, All, Option, Some, None, Vec, MatchOption}
+use Rattle.std.proofs.Common.{append-nil, take-add, add-zero, mul-le-mul_right}
 use Rattle.std.specs.List.{concat}
 use Rattle.std.specs.declared.alloc.Global.{Global}
 use denote.Ref.{Bor}
 use borrow.Rule.Slice.PartMut.{put_mid}
-use Rattle.std.proofs.lemmas.List.{drop-drop, take_more, get_or-drop, length-drop, drop-map, length-take-le, take-append-le, drop-append-le, length_push}
+use Rattle.std.proofs.lemmas.List.{drop-drop, take_more, get_or-drop, length-drop, drop-map, length-take-le}
+use Rattle.std.proofs.lemmas.List.{take-append-le, drop-append-le, length_push}
 use Rattle.std.proofs.Math.Nat.{add-sub_cancel_left}
 use Rattle.std.proofs.lemmas.List.Folds.{concat-append}
 use Rattle.std.proofs.lemmas.List.Elements.{All-drop, All-head, All-push}
@@ -79,7 +82,8 @@ room-for_page j count size at bytes below is_at whole =
 pub length-page_part : (at size : ℕ) (out : List ℕ) → at + size ≤ length out →
     length (take (at + size - at) (drop at out)) ≡ size
 length-page_part at size out fits =
-    ap (λ k. length (take k (drop at out))) (add-sub_cancel_left at size) ∙ length-take-le size (drop at out) (omega (arith, length-drop at out))
+    ap (λ k. length (take k (drop at out))) (add-sub_cancel_left at size)
+    ∙ length-take-le size (drop at out) (omega (arith, length-drop at out))
 
 -- where pages are left to take, the list isn't at its end
 pub not_at_end : (all : List (List ℕ)) (from j count : ℕ) (s : List Buffer) → map page_items s ≡ drop (from + j) all →
@@ -89,8 +93,8 @@ not_at_end all from j count s e empty below range =
     let short : 0 ≡ length (drop (from + j) all) = ap length none in
     omega (arith, short, length-drop (from + j) all)
 
--- the pages that are written so far, and one more: `self` are those before and those written, the
--- page `chunk` comes behind them
+-- the pages that are written so far, and one more: `self` are those before and those written, the page `chunk` comes
+-- behind them
 pub record IsWritten (all : List (List ℕ)) (from j size at : ℕ) (bytes : List ℕ) (self : List (List ℕ)) : Type 0 where
   pub count : length self ≡ from + j
   pub before : take from self ≡ take from all

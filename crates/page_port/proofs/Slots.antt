@@ -1,7 +1,12 @@
 -- The pages of a mount inside the bytes of the device.
-use Rattle.std.proofs.Common.{◌≡◌, ℕ, ◌+◌, ◌*◌, ◌<◌, ◌≤◌, Bool, true, false, IsTrue, List, [], ◌∷◌, ◌++◌, length, take, drop, set, map, refl, ap, sym, ◌∙◌, arith, Option, Some, None, is_some, if◌then◌else◌, append_assoc, zero, suc, replicate, mul-le-mul_right, add-zero, mul-zero}
+use Rattle.std.proofs.Common.{◌≡◌, ℕ, ◌+◌, ◌*◌, ◌<◌, ◌≤◌, Bool, true, false, IsTrue, List, [], ◌∷◌, ◌++◌, length}
+use Rattle.std.proofs.Common.{take, drop, set, map, refl, ap, sym, ◌∙◌, arith, Option, Some, None, is_some}
+use Rattle.std.proofs.Common.{if◌then◌else◌, append_assoc, zero, suc, replicate, mul-le-mul_right, add-zero}
+use Rattle.std.proofs.Common.{mul-zero}
 use Rattle.std.specs.List.{list_all}
-use Rattle.std.proofs.lemmas.List.{drop-drop, take-take, take-append-le, drop-append-le, drop-take, length-take-le, length-drop, take_at, drop_at, take-append-drop, length-replicate, take_more_set, drop-set-lt}
+use Rattle.std.proofs.lemmas.List.{drop-drop, take-take, take-append-le, drop-append-le, drop-take, length-take-le}
+use Rattle.std.proofs.lemmas.List.{length-drop, take_at, drop_at, take-append-drop, length-replicate, take_more_set}
+use Rattle.std.proofs.lemmas.List.{drop-set-lt}
 use Rattle.std.proofs.lemmas.Slice.{drop-put_mid}
 use borrow.Rule.Slice.PartMut.{put_mid}
 use Rattle.std.proofs.Math.Seq.{take-add}
@@ -91,7 +96,8 @@ slots-put size (suc n) at (b ∷ back) whole page is_at sized below fits =
     let room : size + n * size ≤ length whole = omega (arith, rows) in
     let start : at ≡ size + n * size = omega arith in
     ap (λ k. slots size (b ∷ set back n true) (put_mid k size whole page)) start
-    ∙ ap (λ p. (if b then Some p else None) ∷ slots size (set back n true) (drop size (put_mid (size + n * size) size whole page))) (take-put size (n * size) whole page room)
+    ∙ ap (λ p. (if b then Some p else None) ∷ slots size (set back n true)
+    (drop size (put_mid (size + n * size) size whole page))) (take-put size (n * size) whole page room)
     ∙ ap (λ w. (if b then Some (take size whole) else None) ∷ slots size (set back n true) w) (drop-put size (n * size) whole page room)
     ∙ ap (λ ps. (if b then Some (take size whole) else None) ∷ ps)
     (slots-put size n (n * size) back (drop size whole) page refl sized (omega arith) (omega (arith, length-drop size whole)))
@@ -107,8 +113,10 @@ all_back-set (false ∷ back) n h = absurd (cc)
 pub after_return-step : (first : ℕ) (page : List ℕ) (rest : List (List ℕ)) (pages : List (Option (List ℕ))) → first < length pages →
     after_return (first + 1) rest (set pages first (Some page)) ≡ after_return first (page ∷ rest) pages
 after_return-step first page rest pages inside =
-    ap (λ front. front ++ (map Some rest ++ drop (first + 1 + length rest) (set pages first (Some page)))) (take_more_set pages first (Some page) inside)
-    ∙ ap (λ behind. (take first pages ++ Some page ∷ []) ++ (map Some rest ++ behind)) (drop-set-lt (first + 1 + length rest) pages first (Some page) (omega arith))
+    ap (λ front. front ++ (map Some rest ++ drop (first + 1 + length rest) (set pages first (Some page))))
+    (take_more_set pages first (Some page) inside)
+    ∙ ap (λ behind. (take first pages ++ Some page ∷ []) ++ (map Some rest ++ behind))
+    (drop-set-lt (first + 1 + length rest) pages first (Some page) (omega arith))
     ∙ ap (λ k. (take first pages ++ Some page ∷ []) ++ (map Some rest ++ drop k pages)) (omega arith)
     ∙ append_assoc (take first pages) (Some page ∷ []) (map Some rest ++ drop (first + suc (length rest)) pages)
 
@@ -132,7 +140,8 @@ length-slots size (b ∷ back) whole = ap suc (length-slots size back (drop size
 
 -- one page more is put back: what is left gives what it gave before, and the bytes behind stay
 pub record PutsBack (size number : ℕ) (page : List ℕ) (rest : List (List ℕ)) (back : List Bool) (whole now : List ℕ) : Type 0 where
-  pub left : after_return (number + 1) rest (slots size (set back number true) now) ≡ after_return number (page ∷ rest) (slots size back whole)
+  pub left : after_return (number + 1) rest (slots size (set back number true) now)
+      ≡ after_return number (page ∷ rest) (slots size back whole)
   pub behind : drop (size * length back) now ≡ drop (size * length back) whole
 
 pub PutsBack-page : (size number : ℕ) (page : List ℕ) (rest : List (List ℕ)) (back : List Bool) (whole now : List ℕ) →

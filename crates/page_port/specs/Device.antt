@@ -1,11 +1,14 @@
 -- A device: its bytes, and the pages that a mount hands out until they are back.
-use Rattle.std.specs.Prelude.{ℕ, ◌+◌, ◌-◌, ◌*◌, ◌≤◌, Bool, List, [], ◌++◌, length, take, drop, replicate, map, Option, Some, None, is_some, unwrap_or}
-use Rattle.std.specs.List.{list_all, flat_map}
-use Rattle.page_port.specs.Pages.{AreOf}
+use Rattle.std.specs.Prelude.{◌≡◌, ℕ, ◌+◌, ◌-◌, ◌*◌, ◌≤◌, Bool, IsTrue, List, [], ◌++◌, length}
+use Rattle.std.specs.Prelude.{take}
+use Rattle.std.specs.Prelude.{drop, replicate, map, Option, Some, None, is_some, unwrap_or}
+use Rattle.std.specs.List.{concat, list_all, flat_map}
+use Rattle.page_port.specs.Pages.{AreOf, IsSized}
 
--- `bytes` are those that the device holds itself: all of them while no page is out, else those behind
--- the pages of the mount. `pages` are the pages of the last mount: nothing for a page that is out, and
--- for one that came back the contents that it came back with. `mounted` is the last mount's page size
+-- `bytes` are those that the device holds itself: all of them while no page is out, else those
+-- behind the pages of the mount. `pages` are the pages of the last mount: nothing for a page that
+-- is out, and for one that came back the contents that it came back with. `mounted` is the last
+-- mount's page size.
 pub record Device : Type 0 where
   pub bytes : List ℕ
   pub pages : List (Option (List ℕ))
@@ -54,3 +57,12 @@ returned_bytes pages = flat_map page_bytes pages
 pub record IsOfMount (d : Device) (first : ℕ) (contents : List (List ℕ)) : Type 0 where
   pub range : first + length contents ≤ length d.pages
   pub sized : AreOf (unwrap_or d.mounted 0) contents
+
+-- The span that a mount hands out: n pages from page 0 on. Where they are told, each has `size`
+-- bytes, and together they are the first bytes of the device.
+pub record IsFront (told : Bool) (d : Device) (size n start : ℕ)
+    (contents : List (List ℕ)) : Type 0 where
+  pub first : start ≡ 0
+  pub count : length contents ≡ n
+  pub sized : IsSized told size contents
+  pub bytes : IsTrue told → concat contents ≡ take (size * n) d.bytes

@@ -1,5 +1,4 @@
 pub mod Pages
-pub mod Counts
 pub mod Device
 pub mod Memory
 pub mod MemoryBay

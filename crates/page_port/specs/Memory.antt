@@ -2,7 +2,7 @@
 use Rattle.std.specs.Prelude.{ℕ, ◌==◌, Bool, List, Vec}
 use Rattle.std.specs.List.{list_any}
 use Rattle.std.specs.declared.alloc.Global.{Global}
-use Rattle.page_port.specs.Counts.{Meter, counted}
+use Rattle.fault_count.specs.Counts.{Meter, counted}
 
 -- the bytes of one page
 abbrev pub page_items : Vec ℕ Global → List ℕ

@@ -1,5 +1,6 @@
 -- The contents of pages in a row: a list of pages, each a list of its bytes.
-use Rattle.std.specs.Prelude.{◌≡◌, ℕ, ◌+◌, ◌%◌, ◌<◌, Bool, IsTrue, List, length, take, drop, All}
+use Rattle.std.specs.Prelude.{◌≡◌, ℕ, ◌+◌, ◌/◌, ◌%◌, ◌<◌, ◌≤◌, Bool, IsTrue, List, length, take}
+use Rattle.std.specs.Prelude.{drop, All}
 use Rattle.std.specs.List.{concat}
 
 -- each page has `size` bytes
@@ -22,6 +23,13 @@ run_bytes from n pages = concat (run from n pages)
 pub record IsWhole (size bytes : ℕ) : Type 0 where
   pub some : 0 < bytes
   pub even : bytes % size ≡ 0
+
+-- So many bytes are whole pages, and the pages from page `from` on of a row are as many: the row's
+-- pages, where they are told, are of this size.
+pub record FitsPages (told : Bool) (size from bytes : ℕ) (pages : List (List ℕ)) : Type 0 where
+  pub whole : IsWhole size bytes
+  pub range : from + bytes / size ≤ length pages
+  pub sized : IsSized told size pages
 
 -- the n pages from `from` on may differ, and all others are as before
 pub record KeepsOthers (from n : ℕ) (old new : List (List ℕ)) : Type 0 where

@@ -1,9 +1,9 @@
 //! Bays: the whole device, which hands out its pages and takes them back.
-ghost use Rattle.std.specs.Prelude.{◌≡◌, ℕ, ◌+◌, ◌*◌, ◌/◌, ◌≤◌, ◌<◌, ◌++◌, List, length, take, IsTrue, IsSome, IsErr, IfOk, OnOk, OnErr, Err, Some, false};
-ghost use Rattle.std.specs.List.{concat};
-ghost use Rattle.page_port.specs.Pages.{AreOf};
-ghost use Rattle.page_port.specs.Counts.{HasCause, counted, new_meter};
-ghost use Rattle.page_port.specs.Device.{Device, IsOfMount, after_mount, after_prepare, after_return, is_home, returned_bytes, with_faults};
+ghost use Rattle.std.specs.Prelude.{◌≡◌, ℕ, ◌+◌, ◌*◌, ◌/◌, ◌≤◌, ◌<◌, ◌++◌, List, length, take};
+ghost use Rattle.std.specs.Prelude.{IsTrue, IsSome, IsErr, IfOk, OnOk, OnErr, Err, Some, false};
+ghost use Rattle.fault_count.specs.Counts.{HasCause, counted, new_meter};
+ghost use Rattle.page_port.specs.Device.{Device, IsFront, IsOfMount, after_mount, after_prepare};
+ghost use Rattle.page_port.specs.Device.{after_return, is_home, returned_bytes, with_faults};
 
 use crate::port::{DeviceFault, Port};
 use crate::span::Span;
@@ -20,33 +20,36 @@ pub enum BayFail {
 /// The whole device (a block device). `mount` hands out its pages as one span, and `restore` takes
 /// them back; while no page is out, the bay itself holds all bytes.
 pub trait Bay {
-    /// Its ports, whose spans own its pages.
-    type P: Port;
+    /// Its spans, which own its pages. They may cross to another thread, as its ports may.
+    type S: Span + Send;
 
-    // Its bytes, and the pages that it handed out. Where the spans don't tell, bytes and pages of the
-    // device say nothing.
+    /// Its ports, which read and write its spans.
+    type P: Port<S = Self::S> + Send;
+
+    // Its bytes, and the pages that it handed out. Where the spans don't tell, bytes and pages of
+    // the device say nothing.
     ghost device: { Self → Device };
 
     /// The number of its bytes.
     fn size(&mut self) -> Result<u64, DeviceFault>
-        ensures bytes { IfOk result (λ n. IsTrue Self.P.S.tells → IsTrue (is_home (device self.old)) →
+        ensures bytes { IfOk result (λ n. IsTrue Self.S.tells → IsTrue (is_home (device self.old)) →
             n ≡ length (device self.old).bytes) }
         ensures stays { device self.new ≡ with_faults (device self.old) (device self.new).faults }
         ensures cause { HasCause (device self.old).faults (device self.new).faults (IsErr result) };
 
     /// Reads the first 256 bytes.
     fn probe(&mut self, out: &mut [u8; 256]) -> Result<(), DeviceFault>
-        requires { IsTrue Self.P.S.tells → IsTrue (is_home (device self.old)) →
+        requires { IsTrue Self.S.tells → IsTrue (is_home (device self.old)) →
             256 ≤ length (device self.old).bytes }
-        ensures bytes { OnOk result (IsTrue Self.P.S.tells → IsTrue (is_home (device self.old)) →
-            out.new ≡ take 256 (device self.old).bytes) }
+        ensures bytes { IsTrue Self.S.tells → IsTrue (is_home (device self.old)) →
+            OnOk result (out.new ≡ take 256 (device self.old).bytes) }
         ensures stays { device self.new ≡ with_faults (device self.old) (device self.new).faults }
         ensures cause { HasCause (device self.old).faults (device self.new).faults (IsErr result) };
 
     /// Makes the size exactly `bytes`. What is new is zero.
     fn prepare(&mut self, bytes: u64) -> Result<(), BayFail>
-        requires { IsTrue Self.P.S.tells → IsTrue (is_home (device self.old)) }
-        ensures ok { OnOk result (IsTrue Self.P.S.tells → device self.new
+        requires { IsTrue Self.S.tells → IsTrue (is_home (device self.old)) }
+        ensures ok { OnOk result (IsTrue Self.S.tells → device self.new
             ≡ after_prepare (device self.old) bytes (device self.new).faults) }
         ensures mounted { (device self.new).mounted ≡ (device self.old).mounted }
         ensures err { OnErr result
@@ -54,20 +57,17 @@ pub trait Bay {
         ensures cause { HasCause (device self.old).faults (device self.new).faults
             (result ≡ Err BayFail.Fault) };
 
-    /// Hands out its first `pages` pages of `page` bytes, as the span that begins at page 0. The bay
-    /// keeps the bytes behind them.
-    fn mount(&mut self, page: u32, pages: u32) -> Result<<Self::P as Port>::S, BayFail>
+    /// Hands out its first `pages` pages of `page` bytes, as the span that begins at page 0. The
+    /// bay keeps the bytes behind them.
+    fn mount(&mut self, page: u32, pages: u32) -> Result<Self::S, BayFail>
         requires some { 1 ≤ pages }
-        requires fits { IsTrue Self.P.S.tells → page * pages ≤ length (device self.old).bytes }
-        requires home { IsTrue Self.P.S.tells → IsTrue (is_home (device self.old)) }
-        ensures place { IfOk result (λ s. Self.P.S.start s ≡ 0) }
-        ensures count { IfOk result (λ s. length (Self.P.S.contents s) ≡ pages) }
+        requires fits { IsTrue Self.S.tells → page * pages ≤ length (device self.old).bytes }
+        requires home { IsTrue Self.S.tells → IsTrue (is_home (device self.old)) }
+        ensures front { IfOk result (λ s. IsFront Self.S.tells (device self.old) page pages
+            (Self.S.start s) (Self.S.contents s)) }
         ensures mounted { OnOk result ((device self.new).mounted ≡ Some page) }
-        ensures ok { OnOk result (IsTrue Self.P.S.tells → device self.new
+        ensures ok { OnOk result (IsTrue Self.S.tells → device self.new
             ≡ after_mount (device self.old) page pages (device self.new).faults) }
-        ensures sized { IfOk result (λ s. IsTrue Self.P.S.tells → AreOf page (Self.P.S.contents s)) }
-        ensures bytes { IfOk result (λ s. IsTrue Self.P.S.tells →
-            concat (Self.P.S.contents s) ≡ take (page * pages) (device self.old).bytes) }
         ensures err { OnErr result
             (device self.new ≡ with_faults (device self.old) (device self.new).faults) }
         ensures cause { HasCause (device self.old).faults (device self.new).faults
@@ -92,16 +92,16 @@ pub trait Bay {
         ensures stays { device self.new ≡ with_faults (device self.old) (device self.new).faults };
 
     /// Takes pages of the last mount back. It takes no memory.
-    fn restore(&mut self, span: <Self::P as Port>::S)
-        requires { IsTrue Self.P.S.tells →
-            IsOfMount (device self.old) (Self.P.S.start span) (Self.P.S.contents span) }
-        ensures pages { IsTrue Self.P.S.tells → (device self.new).pages
-            ≡ after_return (Self.P.S.start span) (Self.P.S.contents span) (device self.old).pages }
+    fn restore(&mut self, span: Self::S)
+        requires { IsTrue Self.S.tells →
+            IsOfMount (device self.old) (Self.S.start span) (Self.S.contents span) }
+        ensures pages { IsTrue Self.S.tells → (device self.new).pages
+            ≡ after_return (Self.S.start span) (Self.S.contents span) (device self.old).pages }
         // The last page to come back: the bytes are those of the pages, and then those behind them.
-        ensures home { IsTrue Self.P.S.tells → is_home (device self.old) ≡ false →
+        ensures home { IsTrue Self.S.tells → is_home (device self.old) ≡ false →
             IsTrue (is_home (device self.new)) → (device self.new).bytes
             ≡ returned_bytes (device self.new).pages ++ (device self.old).bytes }
-        ensures away { IsTrue Self.P.S.tells → is_home (device self.new) ≡ false →
+        ensures away { IsTrue Self.S.tells → is_home (device self.new) ≡ false →
             (device self.new).bytes ≡ (device self.old).bytes }
         ensures others { device self.new ≡ record (device self.old) {
           bytes = (device self.new).bytes;

@@ -1,6 +1,8 @@
 //! The numbers of a store, and which page is what.
-ghost use Rattle.std.specs.Prelude.{◌≡◌, ℕ, ◌*◌, ◌^◌, ◌≤◌, ◌↔◌, IsTrue, IfSome, IfNone, MatchOption};
-ghost use Rattle.geometry_model.specs.Numbers.{IsInRange, fan_out, is_page_size, objects, pages, space_pages};
+ghost use Rattle.std.specs.Prelude.{◌≡◌, ℕ, ◌*◌, ◌^◌, ◌≤◌, ◌↔◌, IsTrue, IfSome, IfNone};
+ghost use Rattle.std.specs.Prelude.{MatchOption};
+ghost use Rattle.geometry_model.specs.Numbers.{IsInRange, fan_out, is_page_size, objects, pages};
+ghost use Rattle.geometry_model.specs.Numbers.{space_pages};
 ghost use Rattle.geometry_model.specs.Pages.{IsPlace, directory_page, place};
 
 use std::marker::Model;
@@ -46,13 +48,26 @@ impl Model for Geometry {
 }
 
 impl Geometry {
-    /// Pages of `page` bytes (256, 512, 1024, 2048 or 4096), `spaces` spaces (1 to 256) of `2^order` data
-    /// pages (order 4 up to two more than the logarithm of `page`), `catalog` pages of objects (1 to
-    /// 16), and a threshold of 1 to `2^(order - 1)` pages. None where a number is out of its range.
+    /// Pages of `page` bytes (256, 512, 1024, 2048 or 4096), `spaces` spaces (1 to 256) of
+    /// `2^order` data pages (order 4 up to two more than the logarithm of `page`), `catalog` pages
+    /// of objects (1 to 16), and a threshold of 1 to `2^(order - 1)` pages. None where a number is
+    /// out of its range.
     pub fn new(page: u32, order: u32, spaces: u32, catalog: u32, threshold: u32) -> Option<Geometry>
         ensures { MatchOption result
-            (¬ IsInRange (record { page = page; order = order; spaces = spaces; catalog = catalog; threshold = threshold }))
-            (λ g. g ≡ record { page = page; order = order; spaces = spaces; catalog = catalog; threshold = threshold }) }
+            (¬ IsInRange (record {
+              page = page;
+              order = order;
+              spaces = spaces;
+              catalog = catalog;
+              threshold = threshold;
+            }))
+            (λ g. g ≡ record {
+              page = page;
+              order = order;
+              spaces = spaces;
+              catalog = catalog;
+              threshold = threshold;
+            }) }
     {
         if !is_page_size(page) {
             return None;

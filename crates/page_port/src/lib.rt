@@ -6,7 +6,6 @@
 #![tactic(auto)]
 
 mod bay;
-mod count;
 mod fail_at;
 mod geometry;
 mod mem_bay;
@@ -20,7 +19,6 @@ mod span;
 mod tests;
 
 pub use bay::{Bay, BayFail};
-pub use count::counted;
 pub use fail_at::FailAt;
 pub use geometry::Geometry;
 pub use mem_bay::MemBay;

@@ -1,9 +1,16 @@
 //! A bay over memory, whose calls of chosen numbers fail.
-ghost use Rattle.std.specs.Prelude.{◌≡◌, ◌+◌, ◌*◌, ◌≤◌, [], ◌++◌, None, length, take, drop, vec_len, IsTrue};
+ghost use Rattle.std.specs.Prelude.{◌≡◌, ◌+◌, ◌*◌, ◌≤◌, ◌↔◌, [], ◌++◌, Some, None, Err, length};
+ghost use Rattle.std.specs.Prelude.{take, drop, vec_len, true, false, IsTrue, IsErr, IsSome, IfOk};
+ghost use Rattle.std.specs.Prelude.{OnOk};
+ghost use Rattle.std.specs.Prelude.{OnErr};
 ghost use Rattle.page_port.specs.Pages.{AreOf};
-ghost use Rattle.page_port.specs.Counts.{Rose, counted};
+ghost use Rattle.fault_count.specs.Counts.{HasCause, counted};
+ghost use Rattle.page_port.specs.Device.{IsFront, IsOfMount, after_mount, after_prepare};
 ghost use Rattle.page_port.specs.Device.{after_return};
-ghost use Rattle.page_port.specs.MemoryBay.{all_back, next_bay_fails, slots};
+ghost use Rattle.page_port.specs.Device.{is_home, returned_bytes, with_faults};
+ghost use Rattle.page_port.specs.MemoryBay.{after_call, all_back, calls_of, names_read};
+ghost use Rattle.page_port.specs.MemoryBay.{names_write, new_channel, next_bay_fails, next_port};
+ghost use Rattle.page_port.specs.MemoryBay.{slots};
 
 use crate::bay::{Bay, BayFail};
 use crate::fail_at::FailAt;
@@ -74,12 +81,9 @@ impl MemBay {
     /// Counts one call more, and a fault where it is one of those that fail. Does it fail?
     fn next_fails(&mut self) -> bool
         ensures fails { result ≡ next_bay_fails self.old }
-        ensures counted { self.new ≡ record self.old {
-          device = record (self.old.device) { faults = self.new.device.faults };
-          calls = counted self.old.calls 1;
-        } }
-        ensures kept { self.old.device.faults ≤ self.new.device.faults }
-        ensures rose { IsTrue result → Rose self.old.device.faults self.new.device.faults }
+        ensures counted { self.new
+            ≡ after_call self.old (with_faults self.old.device self.new.device.faults) }
+        ensures cause { HasCause self.old.device.faults self.new.device.faults (IsTrue result) }
     {
         self.calls = self.calls.saturating_add(1);
         let call = self.calls;
@@ -132,31 +136,56 @@ fn put_back(
 }
 
 impl MemBay {
-    /// The numbers of the reads or writes of a port that are made to fail.
-    fn failing(&self, port: u32, write: bool) -> Result<Vec<u64>, AllocError> {
-        let mut calls = Vec::new(self.alloc);
-        for at in &self.fail {
-            if at.port == port && at.write == write {
-                calls.push(at.call)?;
-            }
-        }
-        Ok(calls)
+    /// The numbers of the reads of a port that are made to fail.
+    fn failing_reads(&self, port: u32) -> Result<Vec<u64>, AllocError>
+        ensures { IfOk result (λ calls. calls.items
+            ≡ calls_of (names_read port) self.now.failing) }
+    {
+        let named = self.fail.iter().filter(|at| at.port == port && !at.write);
+        named.map(|at| at.call).collect(self.alloc)
+    }
+
+    /// The numbers of the writes of a port that are made to fail.
+    fn failing_writes(&self, port: u32) -> Result<Vec<u64>, AllocError>
+        ensures { IfOk result (λ calls. calls.items
+            ≡ calls_of (names_write port) self.now.failing) }
+    {
+        let named = self.fail.iter().filter(|at| at.port == port && at.write);
+        named.map(|at| at.call).collect(self.alloc)
     }
 }
 
 impl Bay for MemBay {
+    type S = MemSpan;
+
     type P = MemPort;
 
     ghost device = { λ b. b.device };
 
-    fn size(&mut self) -> Result<u64, DeviceFault> {
+    fn size(&mut self) -> Result<u64, DeviceFault>
+        ensures bytes { IfOk result (λ n. IsTrue (is_home self.old.device) →
+            n ≡ length self.old.device.bytes) }
+        ensures stays { self.new ≡ after_call self.old
+            (with_faults self.old.device self.new.device.faults) }
+        ensures cause { HasCause self.old.device.faults self.new.device.faults (IsErr result) }
+        ensures fails { IsErr result ↔ IsTrue (next_bay_fails self.old) }
+    {
         if self.next_fails() {
             return Err(DeviceFault);
         }
         Ok(self.whole.as_slice().len() as u64)
     }
 
-    fn probe(&mut self, out: &mut [u8; 256]) -> Result<(), DeviceFault> {
+    fn probe(&mut self, out: &mut [u8; 256]) -> Result<(), DeviceFault>
+        requires { IsTrue (is_home self.old.device) → 256 ≤ length self.old.device.bytes }
+        ensures bytes { IsTrue (is_home self.old.device) →
+            OnOk result (out.new ≡ take 256 self.old.device.bytes) }
+        ensures stays { self.new ≡ after_call self.old
+            (with_faults self.old.device self.new.device.faults) }
+        ensures cause { HasCause self.old.device.faults self.new.device.faults (IsErr result) }
+        ensures fails { IsTrue (is_home self.old.device) →
+            IsErr result ↔ IsTrue (next_bay_fails self.old) }
+    {
         if self.next_fails() {
             return Err(DeviceFault);
         }
@@ -169,7 +198,16 @@ impl Bay for MemBay {
         Ok(())
     }
 
-    fn prepare(&mut self, bytes: u64) -> Result<(), BayFail> {
+    fn prepare(&mut self, bytes: u64) -> Result<(), BayFail>
+        requires { IsTrue (is_home self.old.device) }
+        ensures ok { OnOk result (self.new ≡ after_call self.old
+            (after_prepare self.old.device bytes self.new.device.faults)) }
+        ensures err { OnErr result (self.new ≡ after_call self.old
+            (with_faults self.old.device self.new.device.faults)) }
+        ensures cause { HasCause self.old.device.faults self.new.device.faults
+            (result ≡ Err BayFail.Fault) }
+        ensures fails { (result ≡ Err BayFail.Fault) ↔ IsTrue (next_bay_fails self.old) }
+    {
         if self.next_fails() {
             return Err(BayFail::Fault);
         }
@@ -180,7 +218,20 @@ impl Bay for MemBay {
         Ok(())
     }
 
-    fn mount(&mut self, page: u32, pages: u32) -> Result<MemSpan, BayFail> {
+    fn mount(&mut self, page: u32, pages: u32) -> Result<MemSpan, BayFail>
+        requires some { 1 ≤ pages }
+        requires fits { page * pages ≤ length self.old.device.bytes }
+        requires home { IsTrue (is_home self.old.device) }
+        ensures front { IfOk result (λ s.
+            IsFront true self.old.device page pages s.first s.pages) }
+        ensures ok { OnOk result (self.new ≡ after_call self.old
+            (after_mount self.old.device page pages self.new.device.faults)) }
+        ensures err { OnErr result (self.new ≡ after_call self.old
+            (with_faults self.old.device self.new.device.faults)) }
+        ensures cause { HasCause self.old.device.faults self.new.device.faults
+            (result ≡ Err BayFail.Fault) }
+        ensures fails { (result ≡ Err BayFail.Fault) ↔ IsTrue (next_bay_fails self.old) }
+    {
         if self.next_fails() {
             return Err(BayFail::Fault);
         }
@@ -197,7 +248,21 @@ impl Bay for MemBay {
         Ok(MemSpan::new(0, list))
     }
 
-    fn port(&mut self) -> Result<MemPort, BayFail> {
+    fn port(&mut self) -> Result<MemPort, BayFail>
+        requires { IsSome self.old.device.mounted }
+        ensures fresh { IfOk result (λ p. self.old.device.mounted ≡ Some p.meter.page) }
+        ensures stays { self.new.device ≡ with_faults self.old.device self.new.device.faults }
+        ensures cause { HasCause self.old.device.faults self.new.device.faults
+            (result ≡ Err BayFail.Fault) }
+
+        // What this bay does besides: which calls fail, its own and those of the port.
+        ensures fails { (result ≡ Err BayFail.Fault) ↔ IsTrue (next_bay_fails self.old) }
+        ensures named { IfOk result (λ p.
+            p ≡ new_channel p.meter.page (next_port self.old) self.old.failing) }
+        ensures numbered { OnOk result (self.new ≡ record
+            (after_call self.old self.new.device) { ports = next_port self.old }) }
+        ensures unmade { OnErr result (self.new ≡ after_call self.old self.new.device) }
+    {
         if self.next_fails() {
             return Err(BayFail::Fault);
         }
@@ -205,21 +270,42 @@ impl Bay for MemBay {
             unreachable!()
         };
         let number = self.ports.saturating_add(1);
-        let Ok(reads) = self.failing(number, false) else {
+        let Ok(reads) = self.failing_reads(number) else {
             return Err(BayFail::Memory);
         };
-        let Ok(writes) = self.failing(number, true) else {
+        let Ok(writes) = self.failing_writes(number) else {
             return Err(BayFail::Memory);
         };
         self.ports = number;
         Ok(MemPort::new(page, reads, writes))
     }
 
-    fn absorb(&mut self, port: MemPort) {
+    fn absorb(&mut self, port: MemPort)
+        ensures faults { self.new.device.faults ≡ counted self.old.device.faults port.meter.faults }
+        ensures none { port.meter.faults ≡ 0 → self.new.device.faults ≡ self.old.device.faults }
+        ensures stays { self.new ≡ record self.old {
+          device = with_faults self.old.device self.new.device.faults;
+        } }
+    {
         self.faults = self.faults.saturating_add(port.faults());
     }
 
-    fn restore(&mut self, span: MemSpan) {
+    fn restore(&mut self, span: MemSpan)
+        requires { IsOfMount self.old.device span.first span.pages }
+        ensures pages { self.new.device.pages
+            ≡ after_return span.first span.pages self.old.device.pages }
+        ensures home { is_home self.old.device ≡ false → IsTrue (is_home self.new.device) →
+            self.new.device.bytes
+            ≡ returned_bytes self.new.device.pages ++ self.old.device.bytes }
+        ensures away { is_home self.new.device ≡ false →
+            self.new.device.bytes ≡ self.old.device.bytes }
+        ensures others { self.new ≡ record self.old {
+          device = record (self.old.device) {
+            bytes = self.new.device.bytes;
+            pages = self.new.device.pages;
+          };
+        } }
+    {
         let first = span.first() as usize;
         let size = self.mounted.unwrap_or(0) as usize;
         put_back(

@@ -1,12 +1,12 @@
 //! Ports over memory, whose calls of chosen numbers fail.
 ghost use Rattle.std.specs.Prelude.{◌≡◌, ◌+◌, ◌/◌, ◌≤◌, ◌<◌, length, IsTrue};
-ghost use Rattle.page_port.specs.Counts.{new_meter};
+ghost use Rattle.fault_count.specs.Counts.{new_meter};
 ghost use Rattle.page_port.specs.Memory.{Calls, Channel};
 
-use crate::count::counted;
 use crate::mem_span::MemSpan;
 use crate::port::{DeviceFault, Port};
 use crate::schedule::Schedule;
+use fault_count::counted;
 use std::marker::Model;
 
 /// A port over memory. Its calls take no memory.

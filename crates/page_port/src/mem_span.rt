@@ -1,5 +1,6 @@
 //! Spans in memory.
-ghost use Rattle.std.specs.Prelude.{◌≡◌, ◌+◌, ◌-◌, ◌*◌, ◌/◌, ◌^◌, ◌<◌, ◌≤◌, ◌++◌, length, take, drop, true};
+ghost use Rattle.std.specs.Prelude.{◌≡◌, ◌+◌, ◌-◌, ◌*◌, ◌/◌, ◌^◌, ◌<◌, ◌≤◌, ◌++◌, length, take};
+ghost use Rattle.std.specs.Prelude.{drop, true};
 ghost use Rattle.page_port.specs.Memory.{Row};
 ghost use Rattle.page_port.specs.Pages.{AreOf, KeepsOthers, run_bytes};
 

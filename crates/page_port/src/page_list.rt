@@ -1,5 +1,7 @@
-//! A linked list of pages in memory. Pages move from list to list without a copy and without memory.
-ghost use Rattle.std.specs.Prelude.{◌≡◌, ◌+◌, ◌-◌, ◌*◌, ◌/◌, ◌^◌, ◌<◌, ◌≤◌, ◌++◌, [], ◌∷◌, length, take, drop, IfOk, OnOk, OnErr, MatchOption};
+//! A linked list of pages in memory. Pages move from list to list without a copy and without
+//! memory.
+ghost use Rattle.std.specs.Prelude.{◌≡◌, ◌+◌, ◌-◌, ◌*◌, ◌/◌, ◌^◌, ◌<◌, ◌≤◌, ◌++◌, [], ◌∷◌, length};
+ghost use Rattle.std.specs.Prelude.{take, drop, IfOk, OnOk, OnErr, MatchOption};
 ghost use Rattle.std.specs.List.{concat};
 ghost use Rattle.page_port.specs.Pages.{AreOf, KeepsOthers, run_bytes};
 
@@ -69,7 +71,8 @@ impl PageList {
 
     /// Takes out the first page.
     pub fn pop(&mut self) -> Option<Vec<u8>>
-        ensures { MatchOption result ((self.old ≡ []) × (self.new ≡ [])) (λ page. self.old ≡ page.items ∷ self.new) }
+        ensures { MatchOption result ((self.old ≡ []) × (self.new ≡ []))
+            (λ page. self.old ≡ page.items ∷ self.new) }
     {
         self.pages.pop_front()
     }

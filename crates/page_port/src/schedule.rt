@@ -1,6 +1,6 @@
 //! Which calls of a port over memory are made to fail.
 ghost use Rattle.std.specs.Prelude.{◌≡◌};
-ghost use Rattle.page_port.specs.Counts.{counted};
+ghost use Rattle.fault_count.specs.Counts.{counted};
 ghost use Rattle.page_port.specs.Memory.{Calls, next_fails};
 
 use std::marker::Model;

@@ -1,15 +1,17 @@
 //! Spans: pages in a row, with one owner.
-ghost use Rattle.std.specs.Prelude.{◌≡◌, ℕ, ◌+◌, ◌-◌, ◌^◌, ◌<◌, ◌≤◌, Bool, List, ◌++◌, length, take, drop};
+ghost use Rattle.std.specs.Prelude.{◌≡◌, ℕ, ◌+◌, ◌-◌, ◌^◌, ◌<◌, ◌≤◌, Bool, List, ◌++◌, length};
+ghost use Rattle.std.specs.Prelude.{take, drop};
 
 /// Owned pages in a row (an extent). No two spans share a page, so who has one knows its bytes.
-pub trait Span: Drop + Send {
+pub trait Span: Drop {
     // Do contracts know what the pages hold? It is so for all spans of a type, or for none.
     ghost tells: { Bool };
 
     // The number of the first page.
     ghost start: { Self → ℕ };
 
-    // What each page holds. Where spans of this type don't tell, only the length of the list counts.
+    // What each page holds. Where spans of this type don't tell, only the length of the list
+    // counts.
     ghost contents: { Self → List (List ℕ) };
 
     /// The number of its first page.

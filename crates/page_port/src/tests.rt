@@ -1,4 +1,5 @@
-//! The geometry's limits, a page's way through a device in memory, and each of its calls failing in turn.
+//! The geometry's limits, a page's way through a device in memory, and each of its calls failing in
+//! turn.
 ghost use Rattle.std.specs.Prelude.{◌≡◌, ◌≤◌, length};
 ghost use Rattle.page_port.specs.Pages.{AreOf};
 
@@ -75,7 +76,8 @@ fn first_failure(alloc: Global, fail: Vec<FailAt>) -> u32 {
     first_port_failure(&mut port, &mut span)
 }
 
-/// Two reads, two writes, and a read of what was written: 11, 12, 21, 22 or 13, or 0 where none fails.
+/// Two reads, two writes, and a read of what was written: 11, 12, 21, 22 or 13, or 0 where none
+/// fails.
 fn first_port_failure(port: &mut MemPort, span: &mut MemSpan) -> u32
     requires page { port.old.meter.page ≡ 256 }
     requires count { 4 ≤ length span.old.pages }

@@ -1,5 +1,7 @@
 -- A step of each recursion on a number, as the code takes it: down to the number before.
-use Rattle.std.proofs.Common.{◌≡◌, ◌≢◌, ℕ, zero, suc, ◌+◌, ◌-◌, ◌*◌, ◌/◌, Bool, true, false, Option, Some, None, List, [], ◌∷◌, ◌++◌, length, map, drop, nat_le, nat_lt, if◌then◌else◌, refl, arith, ap, ◌∙◌}
+use Rattle.std.proofs.Common.{◌≡◌, ◌≢◌, ℕ, zero, suc, ◌+◌, ◌-◌, ◌*◌, ◌/◌, Bool, true, false, Option, Some, None}
+use Rattle.std.proofs.Common.{List, [], ◌∷◌, ◌++◌, length, map, drop, nat_le, nat_lt, if◌then◌else◌, refl, arith}
+use Rattle.std.proofs.Common.{ap, ◌∙◌}
 use Rattle.std.proofs.Math.Nat.{div-eq_of_lt}
 use Rattle.std.specs.List.{range_with_len}
 use Rattle.geometry_model.specs.Numbers.{Numbers}
@@ -9,7 +11,7 @@ use Rattle.layout_model.specs.declared.extent.Extent.{Extent}
 use Rattle.layout_model.specs.Grants.{Spaces, Answer, and_then, or_else, run_of, only, halved, node_pages}
 use Rattle.layout_model.specs.Grants.Answer.{Got, Refused}
 use Rattle.layout_model.specs.Layout.{spare_behind}
-use Rattle.layout_model.specs.Levels.{PageNode, NewLevel, pair_of, sizes_of, level_after, is_top, raised}
+use Rattle.layout_model.specs.Levels.{PageNode, NewLevel, pair_of, sizes_of, level_after, is_top, raised_levels}
 
 pub numbers_more : (first count : ℕ) → count ≢ 0 → range_with_len first count ≡ first ∷ range_with_len (first + 1) (count - 1)
 numbers_more first zero ne = absurd (ne refl)
@@ -32,7 +34,8 @@ halved_step steps n start threshold pages spaces =
           and_then (halved steps n start threshold (pages / 2) left) (λ second rest. Got (first ++ second) rest))
     ])
 
-pub halved_more : (steps : ℕ) (n : Numbers) (start threshold pages : ℕ) (spaces : Spaces) → steps ≢ 0 → halved steps n start threshold pages spaces ≡ halved_step (steps - 1) n start threshold pages spaces
+pub halved_more : (steps : ℕ) (n : Numbers) (start threshold pages : ℕ) (spaces : Spaces) → steps ≢ 0 →
+    halved steps n start threshold pages spaces ≡ halved_step (steps - 1) n start threshold pages spaces
 halved_more zero n start threshold pages spaces ne = absurd (ne refl)
 halved_more (suc steps) n start threshold pages spaces ne =
     let e : steps ≡ suc steps - 1 = omega arith in ap (λ k. halved_step k n start threshold pages spaces) e
@@ -42,7 +45,8 @@ abbrev pub place_step : ℕ → List Bool → ℕ → ℕ → Option ℕ → Opt
 place_step levels blocks size n found =
     elim found [ Some q ↦ Some (q * size) | None ↦ place_from levels (halves blocks) (2 * size) n ]
 
-pub place_from_more : (levels : ℕ) (blocks : List Bool) (size n : ℕ) → levels ≢ 0 → place_from levels blocks size n ≡ place_step (levels - 1) blocks size n (found_at blocks size n)
+pub place_from_more : (levels : ℕ) (blocks : List Bool) (size n : ℕ) → levels ≢ 0 →
+    place_from levels blocks size n ≡ place_step (levels - 1) blocks size n (found_at blocks size n)
 place_from_more zero blocks size n ne = absurd (ne refl)
 place_from_more (suc levels) blocks size n ne =
     let e : levels ≡ suc levels - 1 = omega arith in ap (λ k. place_step k blocks size n (found_at blocks size n)) e
@@ -64,22 +68,25 @@ abbrev pub raised_step : ℕ → ℕ → NewLevel → List ℕ → List NewLevel
 raised_step steps f below pages =
     elim (is_top below) [
       | true ↦ below ∷ []
-      | false ↦ below ∷ raised steps f
+      | false ↦ below ∷ raised_levels steps f
           (level_after f [] 0 0 (map pair_of below.nodes) (drop (length below.made) pages))
           (drop (length below.made) pages)
     ]
 
-pub raised_more : (steps f : ℕ) (below : NewLevel) (pages : List ℕ) → steps ≢ 0 → raised steps f below pages ≡ raised_step (steps - 1) f below pages
+pub raised_more : (steps f : ℕ) (below : NewLevel) (pages : List ℕ) → steps ≢ 0 →
+    raised_levels steps f below pages ≡ raised_step (steps - 1) f below pages
 raised_more zero f below pages ne = absurd (ne refl)
 raised_more (suc steps) f below pages ne = let e : steps ≡ suc steps - 1 = omega arith in ap (λ k. raised_step k f below pages) e
 
-pub level_after_same : (f : ℕ) (nodes : List PageNode) (a b c d : ℕ) (x y : List Pair) (p q : List ℕ) → a ≡ b → c ≡ d → x ≡ y → p ≡ q → level_after f nodes a c x p ≡ level_after f nodes b d y q
+pub level_after_same : (f : ℕ) (nodes : List PageNode) (a b c d : ℕ) (x y : List Pair) (p q : List ℕ) → a ≡ b →
+    c ≡ d → x ≡ y → p ≡ q → level_after f nodes a c x p ≡ level_after f nodes b d y q
 level_after_same f nodes a b c d x y p q from count fresh pages =
     ap (λ t. level_after f nodes t c x p) from ∙ (ap (λ t. level_after f nodes b t x p) count
     ∙ (ap (λ t. level_after f nodes b d t p) fresh ∙ ap (λ t. level_after f nodes b d y t) pages))
 
 -- nothing is left behind one part but where it has one row of runs
-pub spare_none : (size : ℕ) (bytes : List ℕ) (runs : List (List Extent)) → length bytes ≡ 1 → length runs ≢ 1 → None ≡ spare_behind size bytes runs
+pub spare_none : (size : ℕ) (bytes : List ℕ) (runs : List (List Extent)) → length bytes ≡ 1 → length runs ≢ 1 →
+    None ≡ spare_behind size bytes runs
 spare_none size [] runs one other = refl
 spare_none size (b ∷ []) [] one other = refl
 spare_none size (b ∷ []) (r ∷ []) one other = absurd (other refl)

@@ -2,7 +2,8 @@
 
 use crate::spaces::Spaces;
 
-/// What is granted with the pages that are free after it, or the pages that no space had a place for.
+/// What is granted with the pages that are free after it, or the pages that no space had a place
+/// for.
 #[derive(Drop)]
 pub enum Answer<A> {
     /// Granted.

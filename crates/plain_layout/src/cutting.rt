@@ -22,7 +22,8 @@ pub fn sizes_of(alloc: Global, f: u64, n: u64) -> Result<Vec<u64>, Fail>
 
 /// So many nodes as even as possible, the larger ones first.
 fn even_sizes(alloc: Global, nodes: u64, n: u64) -> Result<Vec<u64>, Fail>
-    ensures { IfOk result (λ sizes. sizes.items ≡ replicate (n % nodes) (n / nodes + 1) ++ replicate (nodes - n % nodes) (n / nodes)) }
+    ensures { IfOk result (λ sizes. sizes.items ≡ replicate (n % nodes) (n / nodes + 1)
+        ++ replicate (nodes - n % nodes) (n / nodes)) }
 {
     let least = div(n, nodes)?;
     let larger = rem(n, nodes)?;
@@ -38,7 +39,8 @@ pub fn on_pages(
     sizes: &[u64],
     pairs: &[Pair],
 ) -> Result<Vec<Node>, Fail>
-    ensures { IfOk result (λ nodes. nodes.items ≡ on_pages pages.now (cut_into sizes.now pairs.now)) }
+    ensures { IfOk result (λ nodes. nodes.items
+        ≡ on_pages pages.now (cut_into sizes.now pairs.now)) }
 {
     let [size, others @ ..] = sizes else {
         return Ok(Vec::new(alloc));

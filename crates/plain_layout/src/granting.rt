@@ -4,7 +4,8 @@ ghost use Rattle.std.specs.Prelude.{◌≡◌, IfOk, false};
 ghost use Rattle.std.specs.List.{range_with_len};
 ghost use Rattle.geometry_model.specs.Pages.{data_page};
 ghost use Rattle.block_model.specs.Block.{with_run};
-ghost use Rattle.layout_model.specs.Grants.{around, spot_in, without, run_of, and_then, only, halved, part_runs, all_runs, node_pages};
+ghost use Rattle.layout_model.specs.Grants.{around, spot_in, without, run_of, and_then, only};
+ghost use Rattle.layout_model.specs.Grants.{halved, part_runs, all_runs, node_pages};
 ghost use Rattle.plain_plan.specs.Store.{numbers_of};
 ghost use Rattle.plain_layout.specs.Answers.{answered, behind, spot_of, spot_found};
 
@@ -78,7 +79,8 @@ fn without(alloc: Global, spaces: &Spaces, spot: Spot, n: u64) -> Result<Spaces,
     spaces.with(alloc, spot.space, pages)
 }
 
-/// n pages in the first space, from `start` on and around, that has a place for them.
+/// A run of n pages: the spaces are tried in turn, space `start` first and around, and the first
+/// with room gives it.
 pub fn run_of(
     alloc: Global,
     store: &Store,
@@ -86,7 +88,8 @@ pub fn run_of(
     pages: u64,
     spaces: &Spaces,
 ) -> Result<Answer<Extent>, Fail>
-    ensures { IfOk result (λ answer. answered (λ run. run) answer ≡ run_of (numbers_of store.now) start pages spaces.now) }
+    ensures { IfOk result (λ answer. answered (λ run. run) answer
+        ≡ run_of (numbers_of store.now) start pages spaces.now) }
 {
     let order = around(alloc, start, spaces.len())?;
     match spot_in(alloc, spaces, pages, &order)? {
@@ -109,7 +112,8 @@ fn one_run(
     pages: u64,
     spaces: &Spaces,
 ) -> Result<Answer<Vec<Extent>>, Fail>
-    ensures { IfOk result (λ answer. answered (λ runs. runs.items) answer ≡ and_then (run_of (numbers_of store.now) start pages spaces.now) only) }
+    ensures { IfOk result (λ answer. answered (λ runs. runs.items) answer
+        ≡ and_then (run_of (numbers_of store.now) start pages spaces.now) only) }
 {
     match run_of(alloc, store, start, pages, spaces)? {
         Answer::Refused { pages } => Ok(Answer::Refused { pages }),
@@ -131,7 +135,8 @@ pub fn halved(
     pages: u64,
     spaces: &Spaces,
 ) -> Result<Answer<Vec<Extent>>, Fail>
-    ensures { IfOk result (λ answer. answered (λ runs. runs.items) answer ≡ halved steps (numbers_of store.now) start threshold pages spaces.now) }
+    ensures { IfOk result (λ answer. answered (λ runs. runs.items) answer
+        ≡ halved steps (numbers_of store.now) start threshold pages spaces.now) }
 {
     if steps == 0 {
         return Ok(Answer::Refused { pages });
@@ -155,7 +160,8 @@ pub fn halved(
 
 /// The runs of the first half with those of the other, where that one has some.
 fn both(first: Vec<Extent>, second: Answer<Vec<Extent>>) -> Result<Answer<Vec<Extent>>, Fail>
-    ensures { IfOk result (λ answer. answered (λ runs. runs.items) answer ≡ and_then (answered (λ runs. runs.items) second) (behind first.items)) }
+    ensures { IfOk result (λ answer. answered (λ runs. runs.items) answer
+        ≡ and_then (answered (λ runs. runs.items) second) (behind first.items)) }
 {
     match second {
         Answer::Refused { pages } => Ok(Answer::Refused { pages }),
@@ -175,7 +181,8 @@ pub fn part_runs(
     request: Request,
     spaces: &Spaces,
 ) -> Result<Answer<Vec<Extent>>, Fail>
-    ensures { IfOk result (λ answer. answered (λ runs. runs.items) answer ≡ part_runs (numbers_of store.now) start threshold request spaces.now) }
+    ensures { IfOk result (λ answer. answered (λ runs. runs.items) answer
+        ≡ part_runs (numbers_of store.now) start threshold request spaces.now) }
 {
     let need = request.need as u64;
     match one_run(alloc, store, start, request.want as u64, spaces)? {
@@ -193,7 +200,8 @@ pub fn all_runs(
     requests: &[Request],
     spaces: &Spaces,
 ) -> Result<Answer<Vec<Runs>>, Fail>
-    ensures { IfOk result (λ answer. answered (λ runs. runs.items) answer ≡ all_runs (numbers_of store.now) start threshold requests.now spaces.now) }
+    ensures { IfOk result (λ answer. answered (λ runs. runs.items) answer
+        ≡ all_runs (numbers_of store.now) start threshold requests.now spaces.now) }
 {
     let [request, others @ ..] = requests else {
         return Ok(Answer::Got {
@@ -224,7 +232,8 @@ pub fn node_pages(
     count: u64,
     spaces: &Spaces,
 ) -> Result<Answer<Vec<u32>>, Fail>
-    ensures { IfOk result (λ answer. answered (λ pages. pages.items) answer ≡ node_pages (numbers_of store.now) start count spaces.now) }
+    ensures { IfOk result (λ answer. answered (λ pages. pages.items) answer
+        ≡ node_pages (numbers_of store.now) start count spaces.now) }
 {
     if count == 0 {
         return Ok(Answer::Got {

@@ -1,7 +1,9 @@
 //! The new levels of a tree, from the lowest up to the root's.
 
 ghost use Rattle.std.specs.Prelude.{◌≡◌, IfOk, length, map, drop};
-ghost use Rattle.layout_model.specs.Levels.{pair_of, level_with, level_after, is_top, raised, levels_from, spliced, nodes_of, count_made};
+ghost use Rattle.layout_model.specs.Levels.{pair_of, level_with, level_after, is_top};
+ghost use Rattle.layout_model.specs.Levels.{raised_levels, new_levels_from, spliced};
+ghost use Rattle.layout_model.specs.Levels.{nodes_of_levels, count_made};
 
 use crate::cutting::{on_pages, sizes_of};
 use crate::level::Level;
@@ -33,7 +35,8 @@ fn level_after(
     fresh: &[Pair],
     pages: &[u32],
 ) -> Result<NewLevel, Fail>
-    ensures { IfOk result (λ level. level ≡ level_after f nodes.now from count fresh.now pages.now) }
+    ensures { IfOk result (λ level. level
+        ≡ level_after f nodes.now from count fresh.now pages.now) }
 {
     let site = site_of(alloc, f, nodes, from, count, fresh)?;
     let pairs = exchanged(alloc, nodes, &site, from, count, fresh)?;
@@ -50,14 +53,14 @@ fn is_top(level: &NewLevel) -> bool
 
 /// The levels above the old root, from a new one on.
 #[tactic(auto, using(crate::proofs::Steps::raised_more))]
-fn raised(
+fn raised_levels(
     alloc: Global,
     steps: u64,
     f: u64,
     below: NewLevel,
     pages: &[u32],
 ) -> Result<Vec<NewLevel>, Fail>
-    ensures { IfOk result (λ levels. levels.items ≡ raised steps f below pages.now) }
+    ensures { IfOk result (λ levels. levels.items ≡ raised_levels steps f below pages.now) }
 {
     if steps == 0 {
         return one(alloc, below);
@@ -68,7 +71,7 @@ fn raised(
     let left = rest(below.made().len() as u64, pages);
     let names = names_of(alloc, below.nodes())?;
     let level = level_after(alloc, f, &[], 0, 0, &names, left)?;
-    let above = raised(alloc, steps - 1, f, level, left)?;
+    let above = raised_levels(alloc, steps - 1, f, level, left)?;
     cons(below, above)
 }
 
@@ -80,7 +83,9 @@ fn level_above(
     below: &NewLevel,
     pages: &[u32],
 ) -> Result<NewLevel, Fail>
-    ensures { IfOk result (λ level. level ≡ level_after f nodes.now below.now.from below.now.count (map pair_of below.now.made) (drop (length below.now.made) pages.now)) }
+    ensures { IfOk result (λ level. level
+        ≡ level_after f nodes.now below.now.from below.now.count (map pair_of below.now.made)
+        (drop (length below.now.made) pages.now)) }
 {
     let names = names_of(alloc, below.made())?;
     let left = rest(below.made().len() as u64, pages);
@@ -88,19 +93,19 @@ fn level_above(
 }
 
 /// The levels from a new one on, above which these old levels stand.
-fn levels_from(
+fn new_levels_from(
     alloc: Global,
     f: u64,
     below: NewLevel,
     old: &[Level],
     pages: &[u32],
 ) -> Result<Vec<NewLevel>, Fail>
-    ensures { IfOk result (λ levels. levels.items ≡ levels_from f below old.now pages.now) }
+    ensures { IfOk result (λ levels. levels.items ≡ new_levels_from f below old.now pages.now) }
 {
     match old {
         [] => {
             let steps = below.nodes().len() as u64;
-            raised(alloc, steps, f, below, pages)
+            raised_levels(alloc, steps, f, below, pages)
         }
         [nodes, others @ ..] => {
             if is_top(&below) {
@@ -108,7 +113,7 @@ fn levels_from(
             }
             let level = level_above(alloc, f, nodes.nodes(), &below, pages)?;
             let left = rest(below.made().len() as u64, pages);
-            let above = levels_from(alloc, f, level, others, left)?;
+            let above = new_levels_from(alloc, f, level, others, left)?;
             cons(below, above)
         }
     }
@@ -125,23 +130,24 @@ pub fn spliced(
     fresh: &[Pair],
     pages: &[u32],
 ) -> Result<Vec<NewLevel>, Fail>
-    ensures { IfOk result (λ levels. levels.items ≡ spliced f old.now from count fresh.now pages.now) }
+    ensures { IfOk result (λ levels. levels.items
+        ≡ spliced f old.now from count fresh.now pages.now) }
 {
     match old {
         [] => {
             let level = level_after(alloc, f, &[], 0, 0, fresh, pages)?;
-            levels_from(alloc, f, level, &[], pages)
+            new_levels_from(alloc, f, level, &[], pages)
         }
         [nodes, above @ ..] => {
             let level = level_after(alloc, f, nodes.nodes(), from, count, fresh, pages)?;
-            levels_from(alloc, f, level, above, pages)
+            new_levels_from(alloc, f, level, above, pages)
         }
     }
 }
 
 /// The levels as nodes on pages; an empty tree has none.
-pub fn nodes_of(alloc: Global, levels: &[NewLevel]) -> Result<Vec<Level>, Fail>
-    ensures { IfOk result (λ all. all.items ≡ nodes_of levels.now) }
+pub fn nodes_of_levels(alloc: Global, levels: &[NewLevel]) -> Result<Vec<Level>, Fail>
+    ensures { IfOk result (λ all. all.items ≡ nodes_of_levels levels.now) }
 {
     match levels {
         [] => Ok(Vec::new(alloc)),

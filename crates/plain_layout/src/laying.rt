@@ -4,14 +4,16 @@ ghost use Rattle.std.specs.Prelude.{◌≡◌, IfOk, map};
 ghost use Rattle.geometry_model.specs.Numbers.{fan_out};
 ghost use Rattle.tree_model.specs.Tree.{page_count};
 ghost use Rattle.layout_model.specs.Plan.{extent_pages, extent, past};
-ghost use Rattle.layout_model.specs.Layout.{plan_of, requests, wanted, segments_on, laid_parts, as_run, laid_entries, left_over, spare_behind, spare_after, laid_levels, granted, laid};
+ghost use Rattle.layout_model.specs.Layout.{plan_of, requests, wanted, segments_on, laid_parts};
+ghost use Rattle.layout_model.specs.Layout.{as_run, laid_entries, left_over, spare_behind};
+ghost use Rattle.layout_model.specs.Layout.{spare_after, laid_levels, granted, laid};
 ghost use Rattle.plain_plan.specs.Store.{numbers_of};
 ghost use Rattle.plain_layout.specs.Answers.{answered};
 
 use crate::answer::Answer;
 use crate::granting::{all_runs, node_pages};
 use crate::grants::Grants;
-use crate::growing::{count_made, nodes_of, spliced};
+use crate::growing::{count_made, nodes_of_levels, spliced};
 use crate::laid_tree::Laid;
 use crate::new_level::NewLevel;
 use crate::runs::Runs;
@@ -19,7 +21,7 @@ use crate::spaces::Spaces;
 use crate::tree::Tree;
 use layout_model::{Change, Extent, Fit, Part, Request};
 use plain_plan::{
-    Fail, Plan, Store, add, as_page, ask_of, cons, join, last_entry, made_bytes, mul, one,
+    Fail, Plan, Store, add, as_page, ask_of, cons, join, last_entry, made_part_bytes, mul, one,
     page_count, planned, space_pages,
 };
 use std::alloc::Global;
@@ -139,13 +141,14 @@ fn wanted(
     change: Change,
     plan: &Plan,
 ) -> Result<Vec<Request>, Fail>
-    ensures { IfOk result (λ list. list.items ≡ wanted (numbers_of store.now) tree.now change plan.now) }
+    ensures { IfOk result (λ list. list.items
+        ≡ wanted (numbers_of store.now) tree.now change plan.now) }
 {
     match plan.fit() {
         Fit::Fresh => {
             let entries = tree.entries(alloc)?;
             let last = page_count(store.page, last_entry(&entries).bytes)?;
-            let made = made_bytes(alloc, plan.parts())?;
+            let made = made_part_bytes(alloc, plan.parts())?;
             let needs = pages_of(alloc, store.page, &made)?;
             requests(alloc, change.appends, last, space_pages(store)?, &needs)
         }
@@ -208,7 +211,8 @@ fn laid_entries(
     plan: &Plan,
     runs: &[Runs],
 ) -> Result<Vec<Pair>, Fail>
-    ensures { IfOk result (λ pairs. pairs.items ≡ laid_entries (numbers_of store.now) spare plan.now runs.now) }
+    ensures { IfOk result (λ pairs. pairs.items
+        ≡ laid_entries (numbers_of store.now) spare plan.now runs.now) }
 {
     match plan.fit() {
         Fit::Follow => laid_parts(alloc, store.page, plan.parts(), &as_run(alloc, spare)?),
@@ -255,7 +259,8 @@ fn spare_after(
     plan: &Plan,
     runs: &[Runs],
 ) -> Result<Option<Extent>, Fail>
-    ensures { IfOk result (λ left. left ≡ spare_after (numbers_of store.now) spare change plan.now runs.now) }
+    ensures { IfOk result (λ left. left
+        ≡ spare_after (numbers_of store.now) spare change plan.now runs.now) }
 {
     let size = store.page;
     match plan.fit() {
@@ -266,7 +271,7 @@ fn spare_after(
         }
         Fit::Fresh => {
             if change.appends {
-                spare_behind(size, &made_bytes(alloc, plan.parts())?, runs)
+                spare_behind(size, &made_part_bytes(alloc, plan.parts())?, runs)
             } else {
                 Ok(None)
             }
@@ -284,7 +289,8 @@ fn laid_levels(
     runs: &[Runs],
     pages: &[u32],
 ) -> Result<Vec<NewLevel>, Fail>
-    ensures { IfOk result (λ levels. levels.items ≡ laid_levels (numbers_of store.now) tree.now spare plan.now runs.now pages.now) }
+    ensures { IfOk result (λ levels. levels.items
+        ≡ laid_levels (numbers_of store.now) tree.now spare plan.now runs.now pages.now) }
 {
     let fresh = laid_entries(alloc, store, spare, plan, runs)?;
     spliced(
@@ -309,7 +315,8 @@ pub fn granted(
     change: Change,
     free: &Spaces,
 ) -> Result<Answer<Grants>, Fail>
-    ensures { IfOk result (λ answer. answered (λ grants. grants) answer ≡ granted (numbers_of store.now) start tree.now spare change free.now) }
+    ensures { IfOk result (λ answer. answered (λ grants. grants) answer
+        ≡ granted (numbers_of store.now) start tree.now spare change free.now) }
 {
     let plan = plan_of(alloc, store, tree, spare, change)?;
     let requests = wanted(alloc, store, tree, change, &plan)?;
@@ -338,12 +345,13 @@ pub fn laid(
     change: Change,
     grants: &Grants,
 ) -> Result<Laid, Fail>
-    ensures { IfOk result (λ after. after ≡ laid (numbers_of store.now) tree.now spare change grants.now) }
+    ensures { IfOk result (λ after. after
+        ≡ laid (numbers_of store.now) tree.now spare change grants.now) }
 {
     let plan = plan_of(alloc, store, tree, spare, change)?;
     let runs = grants.runs();
     let levels = laid_levels(alloc, store, tree, spare, &plan, runs, grants.pages())?;
-    let after = Tree::new(nodes_of(alloc, &levels)?, tree.threshold());
+    let after = Tree::new(nodes_of_levels(alloc, &levels)?, tree.threshold());
     let left = spare_after(alloc, store, spare, change, &plan, runs)?;
     Ok(Laid::new(after, left))
 }

@@ -19,13 +19,25 @@ impl Model for NewLevel {
 
     ghost Value = { NewLevel };
 
-    ghost view = { λ l. record { nodes = l.nodes.items; from = l.from; count = l.count; made = l.made.items } };
+    ghost view = { λ l. record {
+      nodes = l.nodes.items;
+      from = l.from;
+      count = l.count;
+      made =
+          l.made.items;
+    } };
 }
 
 impl NewLevel {
     /// A level of these nodes, of which the made ones replace `count` from number `from` on.
     pub fn new(nodes: Vec<Node>, from: u64, count: u64, made: Vec<Node>) -> NewLevel
-        ensures { result ≡ record { nodes = nodes.items; from = from; count = count; made = made.items } }
+        ensures { result ≡ record {
+          nodes = nodes.items;
+          from = from;
+          count = count;
+          made =
+              made.items;
+        } }
     {
         NewLevel {
             nodes,

@@ -2,7 +2,7 @@
 
 ghost use Rattle.std.specs.Prelude.{◌≡◌, IfOk, ◌++◌, map};
 ghost use Rattle.tree_model.specs.Tree.{bytes_of};
-ghost use Rattle.layout_model.specs.Levels.{pair_of, pairs_of};
+ghost use Rattle.layout_model.specs.Levels.{pair_of, pairs_of_level};
 
 use plain_plan::{Fail, add, cons, join};
 use std::alloc::Global;
@@ -88,14 +88,14 @@ pub fn names_of(alloc: Global, nodes: &[Node]) -> Result<Vec<Pair>, Fail>
 }
 
 /// All pairs of these nodes in order.
-pub fn pairs_of(alloc: Global, nodes: &[Node]) -> Result<Vec<Pair>, Fail>
-    ensures { IfOk result (λ pairs. pairs.items ≡ pairs_of nodes.now) }
+pub fn pairs_of_level(alloc: Global, nodes: &[Node]) -> Result<Vec<Pair>, Fail>
+    ensures { IfOk result (λ pairs. pairs.items ≡ pairs_of_level nodes.now) }
 {
     match nodes {
         [] => Ok(Vec::new(alloc)),
         [node, others @ ..] => join(
             Vec::from_slice(alloc, node.pairs())?,
-            &pairs_of(alloc, others)?,
+            &pairs_of_level(alloc, others)?,
         ),
     }
 }

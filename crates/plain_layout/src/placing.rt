@@ -1,8 +1,9 @@
-//! The place of a grant: the lowest of the smallest blocks that hold the pages, found by halving a list
-//! of blocks.
+//! The place of a grant: the lowest of the smallest blocks that hold the pages, found by halving a
+//! list of blocks.
 
 ghost use Rattle.std.specs.Prelude.{◌≡◌, IfOk};
-ghost use Rattle.block_model.specs.Place.{halves, unmerged, first_true, found_at, place_from, place};
+ghost use Rattle.block_model.specs.Place.{halves, unmerged, first_true, found_at, place_from};
+ghost use Rattle.block_model.specs.Place.{place};
 
 use plain_plan::{Fail, add, cons, mul, one};
 use std::alloc::Global;
@@ -53,7 +54,8 @@ fn found_at(alloc: Global, blocks: &[bool], size: u64, n: u64) -> Result<Option<
     }
 }
 
-/// The place among the blocks of the next orders. Where no block is left there is none in any order.
+/// The place among the blocks of the next orders. Where no block is left there is none in any
+/// order.
 #[tactic(auto, using(crate::proofs::Steps::place_from_steps))]
 fn place_from(
     alloc: Global,

@@ -27,8 +27,8 @@ fn free_pages(alloc: Global, marks: &str) -> Result<Spaces, Fail> {
     }
 }
 
-/// The pages that an append to an empty object is granted: its runs in order and then its nodes, or nothing
-/// and the pages that no space had a place for.
+/// The pages that an append to an empty object is granted: its runs in order and then its nodes, or
+/// nothing and the pages that no space had a place for.
 fn appended(alloc: Global, marks: &str, bytes: u64) -> Result<(Vec<Extent>, u64), Fail> {
     let tree = Tree::new(Vec::new(alloc), 2);
     let change = Change {
@@ -59,7 +59,8 @@ fn appended(alloc: Global, marks: &str, bytes: u64) -> Result<(Vec<Extent>, u64)
 
 #[test]
 fn appends_are_granted_the_lowest_best_blocks(rt: HostRuntime) {
-    // The free pages, the bytes, the runs that are granted, and the entries of the tree or the pages refused.
+    // The free pages, the bytes, the runs that are granted, and the entries of the tree or the
+    // pages refused.
     let cases: [(&str, u64, &[(u32, u32)], u64); 5] = [
         ("................", 600, &[(3, 3), (6, 1)], 1),
         ("###.............", 600, &[(7, 3), (6, 1)], 1),
@@ -87,7 +88,8 @@ fn a_level_is_cut_anew_and_joins(rt: HostRuntime) {
         bytes: 512,
         page: 3,
     };
-    // The pairs of two nodes, how many at the front are removed, and the pairs of the first node afterwards.
+    // The pairs of two nodes, how many at the front are removed, and the pairs of the first node
+    // afterwards.
     let cases = [(11, 10, 1, 10), (10, 10, 1, 19), (11, 10, 11, 10)];
     for (first, second, removed, want) in cases {
         let done = cut_front(rt.alloc(), pair, first, second, removed);
@@ -120,7 +122,7 @@ fn cut_front(
         return Err(Fail::Memory);
     }
     let made = crate::spliced(alloc, 20, &levels, 0, removed, &[], &[50, 51])?;
-    let after = crate::nodes_of(alloc, &made)?;
+    let after = crate::nodes_of_levels(alloc, &made)?;
     match after.first() {
         None => Ok(0),
         Some(level) => match level.nodes() {

@@ -1,9 +1,10 @@
 //! Which nodes of a level are made anew.
 
 ghost use Rattle.std.specs.Prelude.{◌≡◌, IfOk};
-ghost use Rattle.layout_model.specs.Levels.{node_at, first_touched, count_touched, touched, nodes_at, exchanged, joins, joined, site_of};
+ghost use Rattle.layout_model.specs.Levels.{node_at, first_touched, count_touched, touched_site};
+ghost use Rattle.layout_model.specs.Levels.{nodes_at, exchanged, joins, joined, site_of};
 
-use crate::node::{Node, pairs_of};
+use crate::node::{Node, pairs_of_level};
 use crate::site::Site;
 use plain_plan::{Fail, add, front, join, rest};
 use std::alloc::Global;
@@ -45,8 +46,8 @@ fn count_touched(nodes: &[Node], from: u64, count: u64) -> Result<u64, Fail>
     Ok(add(last, 1)?.saturating_sub(first_touched(nodes, from, count)?))
 }
 
-fn touched(nodes: &[Node], from: u64, count: u64) -> Result<Site, Fail>
-    ensures { IfOk result (λ site. site ≡ touched nodes.now from count) }
+fn touched_site(nodes: &[Node], from: u64, count: u64) -> Result<Site, Fail>
+    ensures { IfOk result (λ site. site ≡ touched_site nodes.now from count) }
 {
     Ok(Site {
         before: first_touched(nodes, from, count)?,
@@ -70,11 +71,12 @@ pub fn exchanged(
     count: u64,
     fresh: &[Pair],
 ) -> Result<Vec<Pair>, Fail>
-    ensures { IfOk result (λ pairs. pairs.items ≡ exchanged nodes.now site.now from count fresh.now) }
+    ensures { IfOk result (λ pairs. pairs.items
+        ≡ exchanged nodes.now site.now from count fresh.now) }
 {
-    let before = pairs_of(alloc, front(site.before, nodes))?;
+    let before = pairs_of_level(alloc, front(site.before, nodes))?;
     let skipped = from.saturating_sub(before.len() as u64);
-    let here = pairs_of(alloc, nodes_at(nodes, site))?;
+    let here = pairs_of_level(alloc, nodes_at(nodes, site))?;
     let behind = join(
         Vec::from_slice(alloc, fresh)?,
         rest(add(skipped, count)?, &here),
@@ -118,7 +120,7 @@ pub fn site_of(
 ) -> Result<Site, Fail>
     ensures { IfOk result (λ site. site ≡ site_of f nodes.now from count fresh.now) }
 {
-    let site = touched(nodes, from, count)?;
+    let site = touched_site(nodes, from, count)?;
     let pairs = exchanged(alloc, nodes, &site, from, count, fresh)?;
     if joins(f, nodes, &site, pairs.len() as u64) {
         joined(nodes, &site)

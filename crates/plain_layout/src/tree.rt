@@ -2,10 +2,10 @@
 
 ghost use Rattle.std.specs.Prelude.{◌≡◌, IfOk};
 ghost use Rattle.layout_model.specs.Layout.{tree_entries};
-ghost use Rattle.layout_model.specs.Levels.{entries_of};
+ghost use Rattle.layout_model.specs.Levels.{entries_of_levels};
 
 use crate::level::Level;
-use crate::node::pairs_of;
+use crate::node::pairs_of_level;
 use plain_plan::{Fail, cons};
 use std::alloc::Global;
 use std::marker::Model;
@@ -64,7 +64,7 @@ impl Tree {
     {
         match self.levels() {
             [] => Ok(Vec::new(alloc)),
-            [level, ..] => pairs_of(alloc, level.nodes()),
+            [level, ..] => pairs_of_level(alloc, level.nodes()),
         }
     }
 }

@@ -1,9 +1,11 @@
 -- What a reply of the machine says of its holders, and of what stands before a command on an object.
-use Rattle.std.proofs.Common.{◌≡◌, ℕ, Bool, true, false, List, [], ◌∷◌, Option, Some, None, map, set, if◌then◌else◌, refl, sym, ap, subst, ◌∙◌, inl, inr}
+use Rattle.std.proofs.Common.{◌≡◌, ℕ, Bool, true, false, List, [], ◌∷◌, Option, Some, None, map, set, if◌then◌else◌}
+use Rattle.std.proofs.Common.{refl, sym, ap, subst, ◌∙◌, inl, inr}
 use Rattle.std.specs.Option.{option_and_then, unwrap_or}
 use Rattle.std.proofs.lemmas.List.{map-set}
 use Rattle.eos_ops.specs.declared.command.Command.{Command}
-use Rattle.eos_ops.specs.declared.command.Command.TheVariants.{Begin, Create, Destroy, Length, Read, Append, Insert, Delete, Replace, Commit, Abort, Status}
+use Rattle.eos_ops.specs.declared.command.Command.TheVariants.{Begin, Create, Destroy, Length, Read, Append, Insert}
+use Rattle.eos_ops.specs.declared.command.Command.TheVariants.{Delete, Replace, Commit, Abort, Status}
 use Rattle.eos_ops.specs.declared.plain.Plain.{Plain}
 use Rattle.eos_ops.specs.declared.plain.Plain.TheVariants.{Absent, Present}
 use Rattle.eos_ops.specs.declared.reply.Reply.{Reply}
@@ -18,12 +20,14 @@ use Rattle.machine.specs.Replies.{refused, answer, Answers, seat_refused, object
 use Rattle.machine.proofs.Answering.{is_refusal, Refuses, refused_refuses, deed_refusal, seat_refused-session}
 use Rattle.plain_moment.specs.Stored.{holder_in, let_go, holders_after, is_taken, is_look, is_memory}
 
-released_holder : (q committed : Bool) (stamp : ℕ) (slot : Slot) → holder_in (if q then released committed stamp slot else slot) ≡ (if q then None else slot.holder)
+released_holder : (q committed : Bool) (stamp : ℕ) (slot : Slot) →
+    holder_in (if q then released committed stamp slot else slot) ≡ (if q then None else slot.holder)
 released_holder true true stamp slot = refl
 released_holder true false stamp slot = refl
 released_holder false committed stamp slot = refl
 
-settled_holders : (s stamp : ℕ) (committed : Bool) (slots : List Slot) → map holder_in (map (settled s committed stamp) slots) ≡ map (let_go s) (map holder_in slots)
+settled_holders : (s stamp : ℕ) (committed : Bool) (slots : List Slot) →
+    map holder_in (map (settled s committed stamp) slots) ≡ map (let_go s) (map holder_in slots)
 settled_holders s stamp committed [] = refl
 settled_holders s stamp committed (slot ∷ slots) =
     ap (λ h. h ∷ map holder_in (map (settled s committed stamp) slots)) (released_holder (is_holder s slot.holder) committed stamp slot)
@@ -37,7 +41,8 @@ holders_next (Takes o) m s = map-set holder_in m.slots o (taken s (slot_at m o))
 holders_next (Closes committed) m s = settled_holders s (stamp_of m s) committed m.slots
 holders_next Nothing m s = refl
 
-answered_holders : (s o : ℕ) (c : Command) (r : Reply) (holders : List (Option ℕ)) → holders_after s (answered o c r) holders ≡ (if is_taken r then set holders o (Some s) else holders)
+answered_holders : (s o : ℕ) (c : Command) (r : Reply) (holders : List (Option ℕ)) →
+    holders_after s (answered o c r) holders ≡ (if is_taken r then set holders o (Some s) else holders)
 answered_holders s o c reply.Ok holders = refl
 answered_holders s o c (reply.Length n) holders = refl
 answered_holders s o c (reply.Bytes x) holders = refl
@@ -58,8 +63,10 @@ answered_holders s o c (reply.Status f l h) holders = refl
 answered_holders s o c reply.Again holders = refl
 
 -- a command on an object gives it to its session where the reply says so
-pub taken_holders : (s o : ℕ) (c : Command) (r : Reply) (holders : List (Option ℕ)) → object_of c ≡ Some o → holders_after s (deed c r) holders ≡ (if is_taken r then set holders o (Some s) else holders)
-taken_holders s o c r holders on = ap (λ d. holders_after s d holders) (deed-object c r o on) ∙ answered_holders s o (with_bytes c) r holders
+pub taken_holders : (s o : ℕ) (c : Command) (r : Reply) (holders : List (Option ℕ)) → object_of c ≡ Some o →
+    holders_after s (deed c r) holders ≡ (if is_taken r then set holders o (Some s) else holders)
+taken_holders s o c r holders on = ap (λ d. holders_after s d holders) (deed-object c r o on)
+    ∙ answered_holders s o (with_bytes c) r holders
 
 -- the same refusals stand before all commands on an object that aren't too long
 session_same : (active : Bool) (c : Command) (o : ℕ) → object_of c ≡ Some o → session_refusal active c ≡ session_refusal active (Length o)
@@ -88,13 +95,16 @@ session_same false Commit o on = cc
 session_same false Abort o on = cc
 session_same false Status o on = cc
 
-pub refused_same : (m : Machine) (s : ℕ) (c : Command) (o : ℕ) → object_of c ≡ Some o → is_too_long c ≡ false → refused m s c ≡ refused m s (Length o)
+pub refused_same : (m : Machine) (s : ℕ) (c : Command) (o : ℕ) → object_of c ≡ Some o → is_too_long c ≡ false →
+    refused m s c ≡ refused m s (Length o)
 unfolding refused
 refused_same m s c o on short =
-    ap (λ b. if b then Some reply.TooLong else or_else (seat_refused (seat_at m s) c) (option_and_then (object_refused m s) (object_of c))) short
+    ap (λ b. if b then Some reply.TooLong else or_else (seat_refused (seat_at m s) c)
+    (option_and_then (object_refused m s) (object_of c))) short
     ∙ (ap (λ t. or_else (seat_refused (seat_at m s) c) (option_and_then (object_refused m s) t)) on
     ∙ ap (λ t. or_else t (object_refused m s o))
-    (seat_refused-session (seat_at m s) c o on ∙ (session_same (seat_at m s).active c o on ∙ sym (seat_refused-session (seat_at m s) (Length o) o refl))))
+    (seat_refused-session (seat_at m s) c o on
+    ∙ (session_same (seat_at m s).active c o on ∙ sym (seat_refused-session (seat_at m s) (Length o) o refl))))
 
 -- a length is looked at
 length_looked : (o : ℕ) (object : Plain) → is_look (reply_in (Length o) object) ≡ true
@@ -122,13 +132,15 @@ refusal_unlooked reply.Worn h = refl
 refusal_unlooked (reply.Status f l h2) h = refl
 refusal_unlooked reply.Again h = refl
 
-owed_free : (m : Machine) (s o : ℕ) (r : Reply) (t : Option Reply) → refused m s (Length o) ≡ t → r ≡ unwrap_or t (answer m (Length o)) → is_look r ≡ true → t ≡ None
+owed_free : (m : Machine) (s o : ℕ) (r : Reply) (t : Option Reply) → refused m s (Length o) ≡ t →
+    r ≡ unwrap_or t (answer m (Length o)) → is_look r ≡ true → t ≡ None
 owed_free m s o r None is owed look = refl
 owed_free m s o r (Some x) is owed look =
     let refusal : is_refusal x ≡ true = subst Refuses is (refused_refuses m s (Length o)) in
     let bad : true ≡ false = sym look ∙ (ap is_look owed ∙ refusal_unlooked x refusal) in absurd (cc)
 
-owed_refused : (m : Machine) (s o : ℕ) (r : Reply) (t : Option Reply) → r ≡ unwrap_or t (answer m (Length o)) → is_look r ≡ false → t ≡ Some r
+owed_refused : (m : Machine) (s o : ℕ) (r : Reply) (t : Option Reply) → r ≡ unwrap_or t (answer m (Length o)) →
+    is_look r ≡ false → t ≡ Some r
 owed_refused m s o r None owed look =
     let bad : false ≡ true = sym look ∙ (ap is_look owed ∙ length_looked o (slot_at m o).working) in absurd (cc)
 owed_refused m s o r (Some x) owed look = ap (λ (y : Reply). Some y) (sym owed)
@@ -140,7 +152,8 @@ looked_free m s o r answers look = elim answers [
   | inr free ↦ free.1
 ]
 
-pub unlooked_refused : (m : Machine) (s o : ℕ) (r : Reply) → Answers m s (Length o) r → is_look r ≡ false → is_memory r ≡ false → refused m s (Length o) ≡ Some r
+pub unlooked_refused : (m : Machine) (s o : ℕ) (r : Reply) → Answers m s (Length o) r → is_look r ≡ false →
+    is_memory r ≡ false → refused m s (Length o) ≡ Some r
 unlooked_refused m s o r answers look memory = elim answers [
   | inl owed ↦ owed_refused m s o r (refused m s (Length o)) owed look
   | inr free ↦ let bad : false ≡ true = sym memory ∙ ap is_memory free.0 in absurd (cc)

@@ -1,19 +1,20 @@
 -- How often runs use a page: over lists that are put together, and over a list of slots.
-use Rattle.std.proofs.Common.{◌≡◌, ℕ, zero, suc, ◌+◌, Bool, true, false, ◌&&◌, not, List, [], ◌∷◌, ◌++◌, map, count_by, nat_eq, nat_lt, if◌then◌else◌, refl, ap, sym, ◌∙◌, arith}
-use Rattle.std.proofs.lemmas.List.Sums.{sum_by-cons, sum_by-append}
+use Rattle.std.proofs.Common.{◌≡◌, ℕ, zero, suc, ◌+◌, Bool, true, false, ◌&&◌, not, List, [], ◌∷◌, map, count_by}
+use Rattle.std.proofs.Common.{nat_eq, nat_lt, if◌then◌else◌, refl, ap, sym, ◌∙◌, arith}
+use Rattle.std.proofs.lemmas.List.Sums.{sum_by-cons}
 use Rattle.std.proofs.lemmas.Bool.{ne_eqb, lt-ltb}
 use Rattle.std.specs.List.{range_with_len}
 use Rattle.geometry_model.specs.Numbers.{Numbers}
 use Rattle.geometry_model.specs.Pages.{data_page}
 use Rattle.layout_model.specs.declared.extent.Extent.{Extent}
 use Rattle.moment_model.specs.Version.{covers, uses}
-use Rattle.moment_model.specs.Moment.{Slot, Moment, committed_uses, working_uses, all_committed, all_working, is_free, is_locked, tests_in, free_in, locked_in, free_of, locked_of, count_pages}
+use Rattle.moment_model.specs.Moment.{ObjectSlot, Moment, committed_uses, working_uses, all_committed, all_working}
+use Rattle.moment_model.specs.Moment.{is_free, is_locked, tests_in, free_in, locked_in, free_of, locked_of}
+use Rattle.moment_model.specs.Moment.{count_pages}
+use Rattle.moment_laws.proofs.GrantLemmas.{uses-append}
 use Rattle.plain_moment.specs.Testing.{is_in}
 
--- runs behind other ones
-pub uses_append : (page : ℕ) (xs ys : List Extent) → uses page (xs ++ ys) ≡ uses page xs + uses page ys
-uses_append page xs ys = sum_by-append (covers page) xs ys
-
+-- a run before others
 pub uses_more : (page : ℕ) (x : Extent) (xs : List Extent) → uses page (x ∷ xs) ≡ covers page x + uses page xs
 uses_more page x xs = sum_by-cons (covers page) x xs
 
@@ -21,10 +22,12 @@ pub uses_one : (page : ℕ) (x : Extent) → uses page (x ∷ []) ≡ covers pag
 uses_one page x = omega (arith, uses_more page x [])
 
 -- one slot before others
-pub committed_more : (n : Numbers) (page : ℕ) (slot : Slot) (rest : Moment) → all_committed n page (slot ∷ rest) ≡ committed_uses n page slot + all_committed n page rest
+pub committed_more : (n : Numbers) (page : ℕ) (slot : ObjectSlot) (rest : Moment) →
+    all_committed n page (slot ∷ rest) ≡ committed_uses n page slot + all_committed n page rest
 committed_more n page slot rest = sum_by-cons (committed_uses n page) slot rest
 
-pub working_more : (n : Numbers) (page : ℕ) (slot : Slot) (rest : Moment) → all_working n page (slot ∷ rest) ≡ working_uses n page slot + all_working n page rest
+pub working_more : (n : Numbers) (page : ℕ) (slot : ObjectSlot) (rest : Moment) →
+    all_working n page (slot ∷ rest) ≡ working_uses n page slot + all_working n page rest
 working_more n page slot rest = sum_by-cons (working_uses n page) slot rest
 
 -- no run of a list has a page where the first hasn't and no other has
@@ -32,7 +35,8 @@ both_unused : (b : Bool) (c u v : ℕ) → (if b then 1 else 0) ≡ c → v ≡ 
 both_unused true c u v e s = ne_eqb v 0 (λ z. omega arith)
 both_unused false c u v e s = let h : v ≡ u = omega arith in rw h refl
 
-pub unused_more : (page : ℕ) (x : Extent) (xs : List Extent) (b : Bool) → (if b then 1 else 0) ≡ covers page x → nat_eq (uses page (x ∷ xs)) 0 ≡ (not b && nat_eq (uses page xs) 0)
+pub unused_more : (page : ℕ) (x : Extent) (xs : List Extent) (b : Bool) → (if b then 1 else 0) ≡ covers page x →
+    nat_eq (uses page (x ∷ xs)) 0 ≡ (not b && nat_eq (uses page xs) 0)
 unused_more page x xs b e = both_unused b (covers page x) (uses page xs) (uses page (x ∷ xs)) e (uses_more page x xs)
 
 -- two functions that agree make equal lists
@@ -63,12 +67,15 @@ pub locked_same : (n : Numbers) (moment : Moment) (committed working : List Exte
 unfolding locked_of
 locked_same n moment committed working c w =
     map_same (λ s. tests_in n s (is_in true committed working)) (locked_in n moment)
-    (λ s. tests_same n (is_in true committed working) (λ page. is_locked n page moment) (λ page. rw (c page, w page, above_zero (all_committed n page moment)) refl) s)
+    (λ s. tests_same n (is_in true committed working) (λ page. is_locked n page moment)
+    (λ page. rw (c page, w page, above_zero (all_committed n page moment)) refl) s)
     (range_with_len 0 n.spaces)
 
-pub ruleset committed_rules = (uses_append, committed_more)
+pub ruleset version_rules = (uses-append)
 
-pub ruleset working_rules = (uses_append, uses_one, working_more)
+pub ruleset committed_rules = (uses-append, committed_more)
+
+pub ruleset working_rules = (uses-append, uses_one, working_more)
 
 pub pages_more : (row : List Bool) (rows : List (List Bool)) → count_pages (row ∷ rows) ≡ count_by (λ bit. bit) row + count_pages rows
 pages_more row rows = sum_by-cons (count_by (λ bit. bit)) row rows

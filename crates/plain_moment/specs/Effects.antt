@@ -1,5 +1,6 @@
 -- A plain effect as the definitions know it.
-use Rattle.moment_model.specs.Edit.{Effect as ModelEffect, Refuses as refuses, Stays as stays, Becomes as becomes, Changes as changes}
+use Rattle.moment_model.specs.Edit.{Effect as ModelEffect, Refuses as refuses, Stays as stays}
+use Rattle.moment_model.specs.Edit.{Becomes as becomes, Changes as changes}
 use Rattle.plain_moment.specs.declared.effect.Effect.{Effect}
 use Rattle.plain_moment.specs.declared.effect.Effect.TheVariants.{Refuses, Stays, Becomes, Changes}
 

@@ -1,22 +1,23 @@
--- A plain store as one value, and what a command makes of it: a step of the machine, and a move of the moment.
-use Rattle.std.specs.Prelude.{◌≡◌, ℕ, List, map, Bool, true, false, Option, Some, None, length, slice_set, IsTrue, if◌then◌else◌}
+-- A plain store as one value, and what a command makes of it: a step of the machine, and a move
+-- of the moment.
+use Rattle.std.specs.Prelude.{◌≡◌, ℕ, List, map, Bool, true, false, Option, Some, None, length}
+use Rattle.std.specs.Prelude.{slice_set, IsTrue, if◌then◌else◌}
 use Rattle.eos_ops.specs.declared.command.Command.{Command}
 use Rattle.eos_ops.specs.declared.command.Command.TheVariants.{Length}
 use Rattle.eos_ops.specs.declared.limits.TheConstants.{SESSIONS}
 use Rattle.eos_ops.specs.declared.reply.Reply.{Reply}
 use Rattle.eos_ops.specs.declared.reply.Reply.TheVariants as reply
 use Rattle.geometry_model.specs.Numbers.{Numbers}
-use Rattle.history.specs.Event.{Event, Deed, Opens, Does, Takes, Closes, Nothing, deed}
-use Rattle.history.specs.Holding.{holds}
-use Rattle.machine.specs.Machine.{Machine, Slot, is_holder, slot_at}
+use Rattle.history.specs.Event.{Deed, Opens, Does, Takes, Closes, Nothing, deed}
+use Rattle.machine.specs.Machine.{Machine, Slot, is_holder}
 use Rattle.machine.specs.Next.{next}
 use Rattle.machine.specs.Replies.{IsStep, refused}
-use Rattle.machine.specs.Runs.{IsEvent}
+use Rattle.moment_model.specs.Edit.{edited_slot}
 use Rattle.moment_model.specs.Moment.{Moment}
-use Rattle.moment_model.specs.Run.{moment_after, Agrees}
+use Rattle.store_model.specs.Store.{Store, IsToldStep}
 
--- the numbers of a store, the bytes of its objects with the sessions, who holds each object, and where the
--- objects stand
+-- the numbers of a store, the bytes of its objects with the sessions, who holds each object, and
+-- where the objects stand
 pub record Stored : Type 0 where
   pub numbers : Numbers
   pub machine : Machine
@@ -27,32 +28,24 @@ abbrev pub holder_in : Slot → Option ℕ
 holder_in slot = slot.holder
 
 -- the holders are those of the machine
-pub record IsTied (w : Stored) : Type 0 where
+pub record HoldersAgree (w : Stored) : Type 0 where
   pub sessions : length w.machine.seats ≡ SESSIONS
   pub holders : w.holders ≡ map holder_in w.machine.slots
 
-abbrev pub event_of : ℕ → Command → Reply → Event
-event_of s c r = record { session = s; command = c; reply = r }
-
--- the session holds these objects after the events
-abbrev pub HoldsBy : ℕ → List Event → Machine → Type 0
-HoldsBy s past m = (o : ℕ) → holds s o past ≡ is_holder s (slot_at m o).holder
+-- without its list of holders
+abbrev pub store_of : Stored → Store
+store_of w = record { numbers = w.numbers; machine = w.machine; moment = w.moment }
 
 -- a reply that is neither a fault nor want of memory
-abbrev pub is_own : Reply → Bool
-is_own reply.Fault = false
-is_own reply.Memory = false
-is_own r = true
+abbrev pub is_unfailing : Reply → Bool
+is_unfailing reply.Fault = false
+is_unfailing reply.Memory = false
+is_unfailing r = true
 
--- One step: an event of the machine, which moves the machine and the moment, and whose reply agrees with the
--- moment and is no fault and no want of memory. (After any events whose holders are those of the machine.)
+-- One step: a told step of a store of trees, whose reply is no fault and no want of memory.
 pub record IsStoreStep (w : Stored) (s : ℕ) (c : Command) (r : Reply) (w' : Stored) : Type 0 where
-  pub numbers : w'.numbers ≡ w.numbers
-  pub event : IsEvent w.machine (event_of s c r)
-  pub machine : w'.machine ≡ next w.machine s (deed c r)
-  pub moment : (past : List Event) → HoldsBy s past w.machine → w'.moment ≡ moment_after w.numbers past w.moment (event_of s c r)
-  pub agrees : Agrees w.numbers w.moment s c r
-  pub own : IsTrue (is_own r)
+  pub told : IsToldStep edited_slot (store_of w) s c r (store_of w')
+  pub unfailing : IsTrue (is_unfailing r)
 
 -- the reply of an object that is at hand, or of one that its space or its device failed
 abbrev pub is_taken : Reply → Bool
@@ -95,9 +88,10 @@ holders_after s (Takes o) holders = slice_set holders o (Some s)
 holders_after s (Closes committed) holders = map (let_go s) holders
 holders_after s Nothing holders = holders
 
--- The object of a command was asked: the machine's step and the holders after it, and a reply that says nothing of
--- the pages. All else is as before.
-pub record IsServed (w : Stored) (s : ℕ) (c : Command) (r : Reply) (w' : Stored) : Type 0 where
+-- The object of a command was asked: the machine's step and the holders after it, and a reply
+-- that says nothing of the pages. All else is as before.
+pub record HasServedPlain (w : Stored) (s : ℕ) (c : Command) (r : Reply)
+    (w' : Stored) : Type 0 where
   pub step : IsStep w.machine s c r w'.machine
   pub bare : IsTrue (is_bare r)
   pub holders : w'.holders ≡ holders_after s (deed c r) w.holders
@@ -106,7 +100,11 @@ pub record IsServed (w : Stored) (s : ℕ) (c : Command) (r : Reply) (w' : Store
 
 -- the store in which session s has taken object o
 abbrev pub taken_store : Stored → ℕ → ℕ → Stored
-taken_store w s o = record w { machine = next w.machine s (Takes o); holders = slice_set w.holders o (Some s) }
+taken_store w s o = record w {
+  machine = next w.machine s (Takes o);
+  holders =
+      slice_set w.holders o (Some s);
+}
 
 -- Session s was given object o, unless a refusal stands before it. All else is as before.
 abbrev pub IsTaking : Stored → ℕ → ℕ → Option Reply → Stored → Type 0

@@ -6,7 +6,7 @@ ghost use Rattle.moment_model.specs.Moment.{tests_in, free_of, locked_of, count_
 ghost use Rattle.plain_plan.specs.Store.{numbers_of};
 ghost use Rattle.plain_moment.specs.Testing.{is_in};
 
-use crate::slot::Slot;
+use crate::slot::ObjectSlot;
 use crate::using::{all_committed_runs, all_working_runs, is_unused};
 use layout_model::Extent;
 use plain_layout::{Pages, Spaces, data_page};
@@ -33,7 +33,8 @@ fn tests_in(
     committed: &[Extent],
     working: &[Extent],
 ) -> Result<Pages, Fail>
-    ensures { IfOk result (λ pages. pages ≡ tests_in (numbers_of store.now) space (is_in locked committed.now working.now)) }
+    ensures { IfOk result (λ pages. pages
+        ≡ tests_in (numbers_of store.now) space (is_in locked committed.now working.now)) }
 {
     let count = space_pages(store)?;
     let mut tests = Vec::new(alloc);
@@ -58,7 +59,9 @@ fn all_tests(
     committed: &[Extent],
     working: &[Extent],
 ) -> Result<Vec<Pages>, Fail>
-    ensures { IfOk result (λ rows. rows.items ≡ map (λ s. tests_in (numbers_of store.now) s (is_in locked committed.now working.now)) (range_with_len first count)) }
+    ensures { IfOk result (λ rows. rows.items
+        ≡ map (λ s. tests_in (numbers_of store.now) s (is_in locked committed.now working.now))
+        (range_with_len first count)) }
 {
     if count == 0 {
         return Ok(Vec::new(alloc));
@@ -77,7 +80,7 @@ fn all_tests(
 }
 
 /// The free pages of all spaces.
-pub fn free_of(alloc: Global, store: &Store, moment: &[Slot]) -> Result<Spaces, Fail>
+pub fn free_of(alloc: Global, store: &Store, moment: &[ObjectSlot]) -> Result<Spaces, Fail>
     ensures { IfOk result (λ free. free ≡ free_of (numbers_of store.now) moment.now) }
 {
     let committed = all_committed_runs(alloc, store, moment)?;
@@ -87,7 +90,7 @@ pub fn free_of(alloc: Global, store: &Store, moment: &[Slot]) -> Result<Spaces, 
 }
 
 /// The locked pages of all spaces.
-pub fn locked_of(alloc: Global, store: &Store, moment: &[Slot]) -> Result<Spaces, Fail>
+pub fn locked_of(alloc: Global, store: &Store, moment: &[ObjectSlot]) -> Result<Spaces, Fail>
     ensures { IfOk result (λ locked. locked ≡ locked_of (numbers_of store.now) moment.now) }
 {
     let committed = all_committed_runs(alloc, store, moment)?;

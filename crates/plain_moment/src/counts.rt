@@ -5,7 +5,7 @@ ghost use Rattle.moment_model.specs.Run.{AreCounts};
 ghost use Rattle.plain_plan.specs.Store.{numbers_of};
 
 use crate::counting::{count_pages, free_of, locked_of};
-use crate::slot::Slot;
+use crate::slot::ObjectSlot;
 use plain_plan::{Fail, Store, as_page, mul, space_pages};
 use std::alloc::Global;
 
@@ -31,8 +31,9 @@ fn left_of(all: u64, free: u64, locked: u64) -> Result<u64, Fail>
 }
 
 /// The counts of pages of a moment.
-pub fn counts_of(alloc: Global, store: &Store, moment: &[Slot]) -> Result<Counts, Fail>
-    ensures { IfOk result (λ counts. AreCounts (numbers_of store.now) moment.now counts.free counts.locked counts.held) }
+pub fn counts_of(alloc: Global, store: &Store, moment: &[ObjectSlot]) -> Result<Counts, Fail>
+    ensures { IfOk result (λ counts. AreCounts (numbers_of store.now) moment.now counts.free
+        counts.locked counts.held) }
 {
     let free = count_pages(&free_of(alloc, store, moment)?)?;
     let locked = count_pages(&locked_of(alloc, store, moment)?)?;

@@ -1,13 +1,15 @@
 //! An edit of an object, out of these free pages.
 
 ghost use Rattle.std.specs.Prelude.{◌≡◌, IfOk};
-ghost use Rattle.moment_model.specs.Edit.{given_threshold, empty_tree, change_within, effect_on, is_effective, with_working, after_effect, edited_slot, Changes as changes};
+ghost use Rattle.moment_model.specs.Edit.{given_threshold, empty_tree, change_within, effect_on};
+ghost use Rattle.moment_model.specs.Edit.{with_working, after_effect, edited_slot};
+ghost use Rattle.moment_model.specs.Edit.{Changes as changes};
 ghost use Rattle.plain_plan.specs.Store.{numbers_of};
 ghost use Rattle.plain_layout.specs.Answers.{answered};
 ghost use Rattle.plain_moment.specs.Effects.{effect_of};
 
 use crate::effect::Effect;
-use crate::slot::Slot;
+use crate::slot::ObjectSlot;
 use crate::version::{copy_version, tree_bytes};
 use eos_ops::Edit;
 use layout_model::{Change, Extent};
@@ -49,7 +51,8 @@ fn change_within(alloc: Global, tree: &Tree, change: Change) -> Result<Effect, F
 
 /// The effect of an edit on a present object.
 fn effect_on_tree(alloc: Global, store: &Store, tree: &Tree, edit: &Edit) -> Result<Effect, Fail>
-    ensures { IfOk result (λ effect. effect_of effect ≡ effect_on (numbers_of store.now) edit.now (Some tree.now)) }
+    ensures { IfOk result (λ effect. effect_of effect
+        ≡ effect_on (numbers_of store.now) edit.now (Some tree.now)) }
 {
     let (at, removed, added, appends) = match edit {
         Edit::Create { .. } => return Ok(Effect::Refuses),
@@ -78,7 +81,8 @@ pub fn effect_on(
     edit: &Edit,
     version: &Option<Tree>,
 ) -> Result<Effect, Fail>
-    ensures { IfOk result (λ effect. effect_of effect ≡ effect_on (numbers_of store.now) edit.now version.now) }
+    ensures { IfOk result (λ effect. effect_of effect
+        ≡ effect_on (numbers_of store.now) edit.now version.now) }
 {
     match version {
         None => match edit {
@@ -92,23 +96,16 @@ pub fn effect_on(
     }
 }
 
-/// Whether the effect is no refusal.
-pub fn is_effective(effect: &Effect) -> bool
-    ensures { result ≡ is_effective (effect_of effect.now) }
-{
-    !matches!(effect, Effect::Refuses)
-}
-
 /// The slot with another working version and spare.
 fn with_working(
     alloc: Global,
-    slot: &Slot,
+    slot: &ObjectSlot,
     version: Option<Tree>,
     spare: Option<Extent>,
-) -> Result<Slot, Fail>
+) -> Result<ObjectSlot, Fail>
     ensures { IfOk result (λ after. after ≡ with_working slot.now version spare) }
 {
-    Ok(Slot::new(copy_version(alloc, slot.committed())?, version, spare))
+    Ok(ObjectSlot::new(copy_version(alloc, slot.committed())?, version, spare))
 }
 
 /// The slot after a change of its tree, or the pages that no space had a place for.
@@ -117,11 +114,12 @@ fn changed_slot(
     store: &Store,
     start: u64,
     free: &Spaces,
-    slot: &Slot,
+    slot: &ObjectSlot,
     tree: &Tree,
     change: Change,
-) -> Result<Answer<Slot>, Fail>
-    ensures { IfOk result (λ answer. answered (λ after. after) answer ≡ after_effect (numbers_of store.now) start free.now slot.now (changes tree.now change)) }
+) -> Result<Answer<ObjectSlot>, Fail>
+    ensures { IfOk result (λ answer. answered (λ after. after) answer
+        ≡ after_effect (numbers_of store.now) start free.now slot.now (changes tree.now change)) }
 {
     match granted(alloc, store, start, tree, slot.spare(), change, free)? {
         Answer::Refused { pages } => Ok(Answer::Refused { pages }),
@@ -146,10 +144,11 @@ pub fn edited_slot(
     store: &Store,
     start: u64,
     free: &Spaces,
-    slot: &Slot,
+    slot: &ObjectSlot,
     edit: &Edit,
-) -> Result<Answer<Slot>, Fail>
-    ensures { IfOk result (λ answer. answered (λ after. after) answer ≡ edited_slot (numbers_of store.now) start free.now slot.now edit.now) }
+) -> Result<Answer<ObjectSlot>, Fail>
+    ensures { IfOk result (λ answer. answered (λ after. after) answer
+        ≡ edited_slot (numbers_of store.now) start free.now slot.now edit.now) }
 {
     match effect_on(alloc, store, edit, slot.working())? {
         Effect::Refuses | Effect::Stays => Ok(Answer::Got {

@@ -4,30 +4,30 @@ ghost use Rattle.std.specs.Prelude.{◌≡◌, IfOk, map};
 ghost use Rattle.moment_model.specs.Edit.{settled, undone};
 ghost use Rattle.machine.specs.Machine.{is_holder};
 ghost use Rattle.moment_model.specs.Run.{changed_where};
-ghost use Rattle.plain_moment.specs.Holders.{holder_of, ended, ended_by};
+ghost use Rattle.plain_moment.specs.Holders.{holder_of, ended_slot, ended_by};
 ghost use Rattle.plain_moment.specs.Stored.{let_go};
 
-use crate::slot::Slot;
+use crate::slot::ObjectSlot;
 use crate::version::copy_version;
 use plain_plan::{Fail, add, cons};
 use std::alloc::Global;
 
 /// The slot after its transaction is committed.
-pub fn settled(alloc: Global, slot: &Slot) -> Result<Slot, Fail>
+pub fn settled(alloc: Global, slot: &ObjectSlot) -> Result<ObjectSlot, Fail>
     ensures { IfOk result (λ after. after ≡ settled slot.now) }
 {
     let committed = copy_version(alloc, slot.working())?;
     let working = copy_version(alloc, slot.working())?;
-    Ok(Slot::new(committed, working, None))
+    Ok(ObjectSlot::new(committed, working, None))
 }
 
 /// The slot after its transaction is aborted.
-pub fn undone(alloc: Global, slot: &Slot) -> Result<Slot, Fail>
+pub fn undone(alloc: Global, slot: &ObjectSlot) -> Result<ObjectSlot, Fail>
     ensures { IfOk result (λ after. after ≡ undone slot.now) }
 {
     let committed = copy_version(alloc, slot.committed())?;
     let working = copy_version(alloc, slot.committed())?;
-    Ok(Slot::new(committed, working, None))
+    Ok(ObjectSlot::new(committed, working, None))
 }
 
 /// Whether a session is the holder.
@@ -41,8 +41,8 @@ fn is_holder(session: u32, holder: Option<u32>) -> bool
 }
 
 /// The slot after the transaction that holds it ends.
-fn ended(alloc: Global, committed: bool, slot: &Slot) -> Result<Slot, Fail>
-    ensures { IfOk result (λ after. after ≡ ended committed slot.now) }
+fn ended_slot(alloc: Global, committed: bool, slot: &ObjectSlot) -> Result<ObjectSlot, Fail>
+    ensures { IfOk result (λ after. after ≡ ended_slot committed slot.now) }
 {
     if committed {
         settled(alloc, slot)
@@ -68,15 +68,17 @@ fn ended_from(
     committed: bool,
     holders: &[Option<u32>],
     from: u64,
-    slots: &[Slot],
-) -> Result<Vec<Slot>, Fail>
-    ensures { IfOk result (λ after. after.items ≡ changed_where (λ o. is_holder session (holder_of holders.now o)) (ended committed) from slots.now) }
+    slots: &[ObjectSlot],
+) -> Result<Vec<ObjectSlot>, Fail>
+    ensures { IfOk result (λ after. after.items
+        ≡ changed_where (λ o. is_holder session (holder_of holders.now o))
+        (ended_slot committed) from slots.now) }
 {
     match slots {
         [] => Ok(Vec::new(alloc)),
         [slot, others @ ..] => {
             let after = if is_holder(session, holder_of(holders, from)) {
-                ended(alloc, committed, slot)?
+                ended_slot(alloc, committed, slot)?
             } else {
                 slot.copy(alloc)?
             };
@@ -92,9 +94,10 @@ pub fn ended_by(
     session: u32,
     committed: bool,
     holders: &[Option<u32>],
-    moment: &[Slot],
-) -> Result<Vec<Slot>, Fail>
-    ensures { IfOk result (λ after. after.items ≡ ended_by session committed holders.now moment.now) }
+    moment: &[ObjectSlot],
+) -> Result<Vec<ObjectSlot>, Fail>
+    ensures { IfOk result (λ after. after.items
+        ≡ ended_by session committed holders.now moment.now) }
 {
     ended_from(alloc, session, committed, holders, 0, moment)
 }

@@ -1,11 +1,11 @@
 //! Who holds an object after a reply, and what replies say.
 
 ghost use Rattle.std.specs.Prelude.{◌≡◌, Some, None, replicate, IfOk, IsTrue, slice_set};
-ghost use Rattle.moment_model.specs.Moment.{with_slot};
+ghost use Rattle.moment_model.specs.Moment.{with_object_slot};
 ghost use Rattle.moment_model.specs.Run.{is_ok_reply};
 ghost use Rattle.plain_moment.specs.Stored.{is_taken, is_bare, is_look, is_memory};
 
-use crate::slot::Slot;
+use crate::slot::ObjectSlot;
 use eos_ops::Reply;
 use plain_plan::{Fail, cons};
 use std::alloc::Global;
@@ -31,8 +31,8 @@ pub fn hold(holders: &mut Vec<Option<u32>>, object: u64, session: u32)
 }
 
 /// Puts a slot in the place of an object's, where there is such an object.
-pub fn put(moment: &mut Vec<Slot>, object: u64, slot: Slot)
-    ensures { moment.new.items ≡ with_slot moment.old.items object slot }
+pub fn put(moment: &mut Vec<ObjectSlot>, object: u64, slot: ObjectSlot)
+    ensures { moment.new.items ≡ with_object_slot moment.old.items object slot }
 {
     if object < moment.len() as u64 {
         moment[object as usize] = slot;
@@ -75,8 +75,8 @@ pub fn is_ok_reply(reply: &Reply) -> bool
     matches!(reply, Reply::Ok)
 }
 
-/// A reply that says nothing of the pages and of the device; another one is given up, and so is want of
-/// memory.
+/// A reply that says nothing of the pages and of the device; another one is given up, and so is
+/// want of memory.
 pub fn bare(reply: Reply) -> Result<Reply, Fail>
     ensures same { IfOk result (λ r. r ≡ reply) }
     ensures bare { IfOk result (λ r. IsTrue (is_bare r)) }

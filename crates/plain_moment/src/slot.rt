@@ -1,7 +1,7 @@
 //! An object of a store: its two versions and its spare pages.
 
 ghost use Rattle.std.specs.Prelude.{◌≡◌, IfOk};
-ghost use Rattle.moment_model.specs.Moment.{nothing};
+ghost use Rattle.moment_model.specs.Moment.{absent_slot};
 
 use crate::version::copy_version;
 use layout_model::Extent;
@@ -10,29 +10,29 @@ use plain_plan::Fail;
 use std::alloc::Global;
 use std::marker::Model;
 
-/// The committed and the working version of an object, none where it is absent, and the spare pages behind
-/// the working one. In contracts it is the slot of a moment.
+/// The committed and the working version of an object, none where it is absent, and the spare pages
+/// behind the working one. In contracts it is the slot of a moment.
 #[derive(Drop)]
-pub struct Slot {
+pub struct ObjectSlot {
     committed: Option<Tree>,
     working: Option<Tree>,
     spare: Option<Extent>,
 }
 
-impl Model for Slot {
-    ghost use Rattle.moment_model.specs.Moment.{Slot};
+impl Model for ObjectSlot {
+    ghost use Rattle.moment_model.specs.Moment.{ObjectSlot};
 
-    ghost Value = { Slot };
+    ghost Value = { ObjectSlot };
 
     ghost view = { λ s. record { committed = s.committed; working = s.working; spare = s.spare } };
 }
 
-impl Slot {
+impl ObjectSlot {
     /// An absent object at rest.
-    pub fn absent() -> Slot
-        ensures { result ≡ nothing }
+    pub fn absent() -> ObjectSlot
+        ensures { result ≡ absent_slot }
     {
-        Slot {
+        ObjectSlot {
             committed: None,
             working: None,
             spare: None,
@@ -40,10 +40,10 @@ impl Slot {
     }
 
     /// A slot of these versions and this spare.
-    pub fn new(committed: Option<Tree>, working: Option<Tree>, spare: Option<Extent>) -> Slot
+    pub fn new(committed: Option<Tree>, working: Option<Tree>, spare: Option<Extent>) -> ObjectSlot
         ensures { result ≡ record { committed = committed; working = working; spare = spare } }
     {
-        Slot {
+        ObjectSlot {
             committed,
             working,
             spare,
@@ -72,10 +72,10 @@ impl Slot {
     }
 
     /// The same slot once more.
-    pub fn copy(&self, alloc: Global) -> Result<Slot, Fail>
+    pub fn copy(&self, alloc: Global) -> Result<ObjectSlot, Fail>
         ensures { IfOk result (λ copy. copy ≡ self.now) }
     {
-        Ok(Slot {
+        Ok(ObjectSlot {
             committed: copy_version(alloc, &self.committed)?,
             working: copy_version(alloc, &self.working)?,
             spare: self.spare,

@@ -5,7 +5,7 @@ ghost use Rattle.moment_model.specs.Version.{covers, uses};
 ghost use Rattle.moment_model.specs.Moment.{all_committed, all_working, working_uses};
 ghost use Rattle.plain_plan.specs.Store.{numbers_of};
 
-use crate::slot::Slot;
+use crate::slot::ObjectSlot;
 use crate::version::version_runs;
 use layout_model::Extent;
 use plain_plan::{Fail, Store, join};
@@ -16,9 +16,10 @@ use std::alloc::Global;
 pub fn all_committed_runs(
     alloc: Global,
     store: &Store,
-    moment: &[Slot],
+    moment: &[ObjectSlot],
 ) -> Result<Vec<Extent>, Fail>
-    ensures { IfOk result (λ runs. (page : ℕ) → uses page runs.items ≡ all_committed (numbers_of store.now) page moment.now) }
+    ensures { IfOk result (λ runs. (page : ℕ) →
+        uses page runs.items ≡ all_committed (numbers_of store.now) page moment.now) }
 {
     match moment {
         [] => Ok(Vec::new(alloc)),
@@ -31,8 +32,9 @@ pub fn all_committed_runs(
 
 /// The pages that a slot's working version and its spare use.
 #[tactic(auto, using(crate::proofs::Uses::working_rules))]
-fn working_runs(alloc: Global, store: &Store, slot: &Slot) -> Result<Vec<Extent>, Fail>
-    ensures { IfOk result (λ runs. (page : ℕ) → uses page runs.items ≡ working_uses (numbers_of store.now) page slot.now) }
+fn working_runs(alloc: Global, store: &Store, slot: &ObjectSlot) -> Result<Vec<Extent>, Fail>
+    ensures { IfOk result (λ runs. (page : ℕ) →
+        uses page runs.items ≡ working_uses (numbers_of store.now) page slot.now) }
 {
     let runs = version_runs(alloc, store, slot.working())?;
     match slot.spare() {
@@ -43,8 +45,13 @@ fn working_runs(alloc: Global, store: &Store, slot: &Slot) -> Result<Vec<Extent>
 
 /// The pages that the working versions and their spares use.
 #[tactic(auto, using(crate::proofs::Uses::working_rules))]
-pub fn all_working_runs(alloc: Global, store: &Store, moment: &[Slot]) -> Result<Vec<Extent>, Fail>
-    ensures { IfOk result (λ runs. (page : ℕ) → uses page runs.items ≡ all_working (numbers_of store.now) page moment.now) }
+pub fn all_working_runs(
+    alloc: Global,
+    store: &Store,
+    moment: &[ObjectSlot],
+) -> Result<Vec<Extent>, Fail>
+    ensures { IfOk result (λ runs. (page : ℕ) →
+        uses page runs.items ≡ all_working (numbers_of store.now) page moment.now) }
 {
     match moment {
         [] => Ok(Vec::new(alloc)),

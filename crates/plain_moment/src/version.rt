@@ -2,7 +2,8 @@
 
 ghost use Rattle.std.specs.Prelude.{◌≡◌, ℕ, IfOk, map};
 ghost use Rattle.std.specs.List.{flat_map};
-ghost use Rattle.moment_model.specs.Version.{tree_bytes, segment_run, node_run, segment_runs, node_runs, version_uses, uses};
+ghost use Rattle.moment_model.specs.Version.{tree_bytes, segment_run, node_run, segment_runs};
+ghost use Rattle.moment_model.specs.Version.{node_runs, version_uses, uses};
 ghost use Rattle.plain_plan.specs.Store.{numbers_of};
 
 use layout_model::Extent;
@@ -74,13 +75,14 @@ fn level_runs(alloc: Global, levels: &[Level]) -> Result<Vec<Extent>, Fail>
 }
 
 /// The pages that a version uses, those of its segments before those of its nodes.
-#[tactic(auto, using(crate::proofs::Uses::uses_append))]
+#[tactic(auto, using(crate::proofs::Uses::version_rules))]
 pub fn version_runs(
     alloc: Global,
     store: &Store,
     version: &Option<Tree>,
 ) -> Result<Vec<Extent>, Fail>
-    ensures { IfOk result (λ runs. (page : ℕ) → uses page runs.items ≡ version_uses (numbers_of store.now) page version.now) }
+    ensures { IfOk result (λ runs. (page : ℕ) →
+        uses page runs.items ≡ version_uses (numbers_of store.now) page version.now) }
 {
     match version {
         None => Ok(Vec::new(alloc)),

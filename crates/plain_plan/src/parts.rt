@@ -2,7 +2,9 @@
 
 ghost use Rattle.std.specs.Prelude.{◌≡◌, IfOk, map};
 ghost use Rattle.layout_model.specs.declared.part.Part.TheVariants.{Keep, Make};
-ghost use Rattle.layout_model.specs.Parts.{ended, begun, one_before, one_after, left_of, head_of, without_pages, right_of, pieces, parts_of};
+ghost use Rattle.layout_model.specs.Parts.{count_ended, count_begun, one_before, one_after};
+ghost use Rattle.layout_model.specs.Parts.{left_of, head_of, without_pages, right_of, pieces};
+ghost use Rattle.layout_model.specs.Parts.{parts_of};
 
 use crate::lists::{front, join, one, rest};
 use crate::numbers::{Fail, add, as_page, div, mul, page_count, rem};
@@ -11,14 +13,14 @@ use std::alloc::Global;
 use tree_model::Pair;
 
 /// How many entries end at byte `at` or before it.
-pub fn ended(at: u64, entries: &[Pair]) -> Result<u64, Fail>
-    ensures { IfOk result (λ count. count ≡ ended at entries.now) }
+pub fn count_ended(at: u64, entries: &[Pair]) -> Result<u64, Fail>
+    ensures { IfOk result (λ count. count ≡ count_ended at entries.now) }
 {
     match entries {
         [] => Ok(0),
         [p, after @ ..] => {
             if p.bytes <= at {
-                add(ended(at - p.bytes, after)?, 1)
+                add(count_ended(at - p.bytes, after)?, 1)
             } else {
                 Ok(0)
             }
@@ -27,8 +29,8 @@ pub fn ended(at: u64, entries: &[Pair]) -> Result<u64, Fail>
 }
 
 /// How many entries begin before byte `at`.
-pub fn begun(at: u64, entries: &[Pair]) -> Result<u64, Fail>
-    ensures { IfOk result (λ count. count ≡ begun at entries.now) }
+pub fn count_begun(at: u64, entries: &[Pair]) -> Result<u64, Fail>
+    ensures { IfOk result (λ count. count ≡ count_begun at entries.now) }
 {
     match entries {
         [] => Ok(0),
@@ -36,7 +38,7 @@ pub fn begun(at: u64, entries: &[Pair]) -> Result<u64, Fail>
             if at == 0 {
                 Ok(0)
             } else {
-                add(begun(at.saturating_sub(p.bytes), after)?, 1)
+                add(count_begun(at.saturating_sub(p.bytes), after)?, 1)
             }
         }
     }
@@ -46,7 +48,7 @@ pub fn begun(at: u64, entries: &[Pair]) -> Result<u64, Fail>
 pub fn one_before(at: u64, entries: &[Pair]) -> Result<&[Pair], Fail>
     ensures { IfOk result (λ pairs. pairs.now ≡ one_before at entries.now) }
 {
-    let count = ended(at, entries)?;
+    let count = count_ended(at, entries)?;
     Ok(rest(count.saturating_sub(1), front(count, entries)))
 }
 
@@ -54,7 +56,7 @@ pub fn one_before(at: u64, entries: &[Pair]) -> Result<&[Pair], Fail>
 pub fn one_after(at: u64, entries: &[Pair]) -> Result<&[Pair], Fail>
     ensures { IfOk result (λ pairs. pairs.now ≡ one_after at entries.now) }
 {
-    let count = begun(at, entries)?;
+    let count = count_begun(at, entries)?;
     Ok(front(1, rest(count, entries)))
 }
 

@@ -1,13 +1,15 @@
 //! The plan of a change: which entries are replaced, by which parts, and where the new bytes go.
 
 ghost use Rattle.std.specs.Prelude.{◌≡◌, IfOk, length};
-ghost use Rattle.layout_model.specs.Plan.{fit_of, ask_of, is_kept, begins_kept, ends_kept, made_bytes, fit_made, merged_one, plan_packed, last_entry, plan_extended, fit_appended, planned};
+ghost use Rattle.layout_model.specs.Plan.{fit_of, ask_of, is_kept, begins_kept, ends_kept};
+ghost use Rattle.layout_model.specs.Plan.{made_part_bytes, fit_made, merged_one, plan_packed};
+ghost use Rattle.layout_model.specs.Plan.{last_entry, plan_extended, fit_appended, planned};
 ghost use Rattle.plain_plan.specs.Store.{numbers_of};
 
 use crate::lists::{cons, front, join, one, rest};
 use crate::numbers::{Fail, Store, add, mul, page_count, rem, space_pages};
 use crate::packing::pack;
-use crate::parts::{begun, ended, one_after, one_before, parts_of};
+use crate::parts::{count_begun, count_ended, one_after, one_before, parts_of};
 use layout_model::{Change, Fit, Part};
 use std::alloc::Global;
 use std::marker::Model;
@@ -27,7 +29,13 @@ impl Model for Plan {
 
     ghost Value = { Plan };
 
-    ghost view = { λ p. record { from = p.from; count = p.count; parts = p.parts.items; fit = p.fit } };
+    ghost view = { λ p. record {
+      from = p.from;
+      count = p.count;
+      parts = p.parts.items;
+      fit =
+          p.fit;
+    } };
 }
 
 impl Plan {
@@ -109,13 +117,13 @@ fn ends_kept(parts: &[Part]) -> bool
 }
 
 /// The bytes of the parts that are made.
-pub fn made_bytes(alloc: Global, parts: &[Part]) -> Result<Vec<u64>, Fail>
-    ensures { IfOk result (λ list. list.items ≡ made_bytes parts.now) }
+pub fn made_part_bytes(alloc: Global, parts: &[Part]) -> Result<Vec<u64>, Fail>
+    ensures { IfOk result (λ list. list.items ≡ made_part_bytes parts.now) }
 {
     match parts {
         [] => Ok(Vec::new(alloc)),
-        [Part::Keep(_), after @ ..] => made_bytes(alloc, after),
-        [Part::Make(bytes), after @ ..] => cons(*bytes, made_bytes(alloc, after)?),
+        [Part::Keep(_), after @ ..] => made_part_bytes(alloc, after),
+        [Part::Make(bytes), after @ ..] => cons(*bytes, made_part_bytes(alloc, after)?),
     }
 }
 
@@ -161,13 +169,13 @@ fn plan_packed(
     let merged_after = merged_one(after, ends_kept(parts));
     let skipped = (before.len() as u64).saturating_sub(merged_before);
     let left_out = add(skipped, (after.len() as u64).saturating_sub(merged_after))?;
-    let from = ended(change.at, entries)?.saturating_sub(merged_before);
-    let to = add(begun(end, entries)?, merged_after)?;
+    let from = count_ended(change.at, entries)?.saturating_sub(merged_before);
+    let to = add(count_begun(end, entries)?, merged_after)?;
     let kept = front(
         (parts.len() as u64).saturating_sub(left_out),
         rest(skipped, parts),
     );
-    let made = made_bytes(alloc, parts)?;
+    let made = made_part_bytes(alloc, parts)?;
     Ok(Plan {
         from,
         count: to.saturating_sub(from),
@@ -224,7 +232,8 @@ pub fn planned(
     spare: u64,
     change: Change,
 ) -> Result<Plan, Fail>
-    ensures { IfOk result (λ plan. plan ≡ planned (numbers_of store.now) threshold entries.now spare change) }
+    ensures { IfOk result (λ plan. plan
+        ≡ planned (numbers_of store.now) threshold entries.now spare change) }
 {
     let size = store.page;
     match fit_appended(size, entries, spare, change)? {

@@ -1,6 +1,7 @@
 //! The set of locked pages, one byte a page, with its size kept beside it.
 
-ghost use Rattle.std.specs.Prelude.{◌≡◌, ◌+◌, ◌^◌, ◌<◌, ◌≤◌, Bool, true, false, List, length, replicate, IfOk};
+ghost use Rattle.std.specs.Prelude.{◌≡◌, ◌+◌, ◌^◌, ◌<◌, ◌≤◌, Bool, true, false, List, length};
+ghost use Rattle.std.specs.Prelude.{replicate, IfOk};
 ghost use Rattle.block_model.specs.Block.{has_page, count_of, with_run};
 
 use block_model::{insert_run, remove_run};

@@ -12,12 +12,13 @@ use Rattle.edit_laws.specs.Laying.{AsksThreshold}
 abbrev pub is_held : ℕ → List Event → ℕ → Bool
 is_held sessions past o = some_upto sessions (λ s. holds s o past)
 
--- An answered line of one of the sessions. An edit that is answered `ok` comes in a transaction that its session has
--- open, and no edit asks for a threshold of 0.
+-- An answered line of one of the sessions. An edit that is answered `ok` comes in a transaction
+-- that its session has open, and no edit asks for a threshold of 0.
 pub record IsInOrder (sessions : ℕ) (past : List Event) (e : Event) : Type 0 where
   pub low : 1 ≤ e.session
   pub high : e.session ≤ sessions
-  pub open_for_edits : (edit : Edit) → edit_of e.command ≡ Some edit → e.reply ≡ reply.Ok → is_open e.session past ≡ true
+  pub open_for_edits : (edit : Edit) → edit_of e.command ≡ Some edit → e.reply ≡ reply.Ok →
+      is_open e.session past ≡ true
   pub thresholds : (edit : Edit) → edit_of e.command ≡ Some edit → AsksThreshold edit
 
 abbrev pub AllInOrder : ℕ → List Event → Type 0

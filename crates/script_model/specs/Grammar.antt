@@ -4,14 +4,17 @@ use Rattle.std.specs.Fmt.{decimal}
 use Rattle.std.specs.List.{join_with_byte}
 use Rattle.hex.specs.Hex.{IsBytes, encode_lower}
 use Rattle.eos_ops.specs.declared.command.Command.{Command}
-use Rattle.eos_ops.specs.declared.command.Command.TheVariants.{Begin, Create, Destroy, Length, Read, Append, Insert, Delete, Replace, Commit, Abort, Status}
+use Rattle.eos_ops.specs.declared.command.Command.TheVariants.{Begin, Create, Destroy, Length}
+use Rattle.eos_ops.specs.declared.command.Command.TheVariants.{Read, Append, Insert, Delete}
+use Rattle.eos_ops.specs.declared.command.Command.TheVariants.{Replace, Commit, Abort, Status}
 use Rattle.eos_ops.specs.declared.limits.TheConstants.{SESSIONS}
 use Rattle.eos_ops.specs.declared.payload.Payload.{Payload}
 use Rattle.eos_ops.specs.declared.payload.Payload.TheVariants.{Given, Made}
 use Rattle.script_model.specs.declared.limits.TheConstants.{MAX_THRESHOLD}
 use Rattle.script_model.specs.declared.line.Line.{Line}
 
--- a given payload is `x` and two lower-case digits a byte; a made one is `r`, its length, a dot and its start
+-- a given payload is `x` and two lower-case digits a byte; a made one is `r`, its length, a dot
+-- and its start
 abbrev pub payload_word : Payload → List ℕ
 payload_word (Given bytes) = codes "x" ++ encode_lower bytes
 payload_word (Made n start) = codes "r" ++ (decimal n ++ (codes "." ++ decimal start))
@@ -36,7 +39,8 @@ words_of Commit = codes "commit" ∷ []
 words_of Abort = codes "abort" ∷ []
 words_of Status = codes "status" ∷ []
 
--- the line, without its line feed: the session and the words of the command, with one blank between each two
+-- the line, without its line feed: the session and the words of the command, with one blank
+-- between each two
 abbrev pub spelled : Line → List ℕ
 spelled l = join_with_byte 32 (decimal l.session ∷ words_of l.command)
 
@@ -50,8 +54,7 @@ abbrev pub ThresholdFits : Option ℕ → Type 0
 ThresholdFits None = Unit {0}
 ThresholdFits (Some t) = (1 ≤ t) × (t ≤ MAX_THRESHOLD)
 
--- The numbers of a command are in their ranges. `status` asks for pages, and the objects have none yet: it is in
--- no line.
+-- the numbers of a command are in their ranges
 abbrev pub CommandFits : Command → Type 0
 CommandFits Begin = Unit {0}
 CommandFits (Create o t) = (o < 2 ^ 64) × ThresholdFits t
@@ -64,7 +67,7 @@ CommandFits (Delete o at n) = (o < 2 ^ 64) × (at < 2 ^ 64) × (n < 2 ^ 64)
 CommandFits (Replace o at p) = (o < 2 ^ 64) × (at < 2 ^ 64) × PayloadFits p
 CommandFits Commit = Unit {0}
 CommandFits Abort = Unit {0}
-CommandFits Status = ⊥
+CommandFits Status = Unit {0}
 
 -- the text is this line: a session from 1 to 64, numbers in their ranges, spelled in the one way
 pub record IsLine (text : List ℕ) (l : Line) : Type 0 where

@@ -23,7 +23,9 @@ reply_words reply.Idle = codes "idle"
 reply_words reply.Active = codes "active"
 reply_words reply.TooLong = codes "toolong"
 reply_words reply.Worn = codes "worn"
-reply_words (reply.Status free locked held) = codes "status " ++ (decimal free ++ (codes " " ++ (decimal locked ++ (codes " " ++ decimal held))))
+reply_words (reply.Status free locked held) =
+    codes "status " ++ (decimal free ++ (codes " "
+    ++ (decimal locked ++ (codes " " ++ decimal held))))
 reply_words reply.Again = codes "again"
 
 -- the line of a reply to a session: its number, a blank, the words, and a line feed

@@ -1,10 +1,7 @@
 -- What a chain of optional values gives, where it gives something.
 use Rattle.std.proofs.Common.{◌≡◌, Bool, true, false, Option, Some, None, if◌then◌else◌, refl}
 use Rattle.std.specs.Option.{option_and_then, option_map}
-
--- a value out of a `Some`
-pub some-inner : {A : Type 0} (x y : A) → Some x ≡ Some y → x ≡ y
-some-inner x y h = cc
+use Rattle.base_laws.proofs.OptionLaws.{some-inner}
 
 -- each step of a chain gave something
 pub and_then-some : {A B : Type 0} (f : A → Option B) (o : Option A) (y : B) → option_and_then f o ≡ Some y

@@ -1,5 +1,6 @@
 -- The words of a command are read as that command, and no others are.
-use Rattle.std.proofs.Common.{◌≡◌, ℕ, ◌^◌, ◌<◌, ◌≤◌, ◌&&◌, nat_le, Bool, true, false, List, [], ◌∷◌, drop, codes, Option, Some, None, decimal, if◌then◌else◌, refl, ◌∙◌, ap, arith}
+use Rattle.std.proofs.Common.{◌≡◌, ℕ, ◌^◌, ◌<◌, ◌≤◌, ◌&&◌, nat_le, Bool, true, false, List, [], ◌∷◌, drop, codes}
+use Rattle.std.proofs.Common.{Option, Some, None, decimal, if◌then◌else◌, refl, ◌∙◌, ap, arith}
 use Rattle.std.specs.Prelude.{IfSome}
 use Rattle.std.specs.Option.{option_and_then, option_map}
 use Rattle.std.specs.Str.{bytes_eq}
@@ -11,10 +12,12 @@ use Rattle.eos_ops.specs.declared.payload.Payload.{Payload}
 use Rattle.script_model.specs.declared.limits.TheConstants.{MAX_THRESHOLD}
 use Rattle.script_model.specs.Grammar.{CommandFits, PayloadFits, payload_word, words_of}
 use Rattle.script_text.specs.declared.verb.Verb.{Verb}
-use Rattle.script_text.specs.declared.verb.Verb.TheVariants.{Begin, Create, Destroy, Length, Read, Append, Insert, Delete, Replace, Commit, Abort}
-use Rattle.script_text.specs.Reading.{command_in, command_of, created, one_number, one_payload, placed, three_numbers, verb_of}
+use Rattle.script_text.specs.declared.verb.Verb.TheVariants.{Begin, Create, Destroy, Length, Read, Append, Insert}
+use Rattle.script_text.specs.declared.verb.Verb.TheVariants.{Delete, Replace, Commit, Abort, Status}
+use Rattle.script_text.specs.Reading.{command_in, command_of, created, one_number, one_payload, placed_payload, three_numbers, verb_of}
 use Rattle.script_text.specs.Words.{first_number, if_last, number_of}
-use Rattle.script_text.proofs.Choices.{and_then-some, if-some, map-some, some-inner}
+use Rattle.base_laws.proofs.OptionLaws.{some-inner}
+use Rattle.script_text.proofs.Choices.{and_then-some, if-some, map-some}
 use Rattle.script_text.proofs.NumberLemmas.{number_of-decimal, number_of-some}
 use Rattle.script_text.proofs.PayloadLemmas.{clean-decimal, clean-payload, one_payload-some, payload_of-word}
 use Rattle.script_text.proofs.WordLemmas.{AllClean}
@@ -33,6 +36,7 @@ verb_word Delete = codes "delete"
 verb_word Replace = codes "replace"
 verb_word Commit = codes "commit"
 verb_word Abort = codes "abort"
+verb_word Status = codes "status"
 
 -- one test more of a word
 test-more : (word text : List ℕ) (v : Verb) (o : Option Verb) (b : Bool) → (b ≡ true → word ≡ text) → text ≡ verb_word v
@@ -56,7 +60,8 @@ verb_of-word word =
     (test-more word (codes "delete") Delete _ _ (equal word (codes "delete")) refl
     (test-more word (codes "replace") Replace _ _ (equal word (codes "replace")) refl
     (test-more word (codes "commit") Commit _ _ (equal word (codes "commit")) refl
-    (test-more word (codes "abort") Abort None _ (equal word (codes "abort")) refl tt))))))))))
+    (test-more word (codes "abort") Abort _ _ (equal word (codes "abort")) refl
+    (test-more word (codes "status") Status None _ (equal word (codes "status")) refl tt)))))))))))
 
 verb_of-some : (word : List ℕ) (v : Verb) → verb_of word ≡ Some v → word ≡ verb_word v
 verb_of-some word v h = let spelled = verb_of-word word in rw h at spelled
@@ -84,7 +89,8 @@ one_number-some ws n h =
 three_numbers-some : (ws : List (List ℕ)) (p : ℕ × ℕ × ℕ) → three_numbers ws ≡ Some p
     → (p.0 < 2 ^ 64) × (p.1 < 2 ^ 64) × (p.2 < 2 ^ 64) × (ws ≡ decimal p.0 ∷ decimal p.1 ∷ decimal p.2 ∷ [])
 three_numbers-some ws p h =
-    let a = and_then-some (λ o. option_and_then (λ at. option_map (λ n. (o, at, n)) (one_number (drop 1 (drop 1 ws)))) (first_number (drop 1 ws))) (first_number ws) p h in
+    let a = and_then-some (λ o. option_and_then (λ at. option_map (λ n. (o, at, n))
+    (one_number (drop 1 (drop 1 ws)))) (first_number (drop 1 ws))) (first_number ws) p h in
     let b = and_then-some (λ at. option_map (λ n. (a.0, at, n)) (one_number (drop 1 (drop 1 ws)))) (first_number (drop 1 ws)) p a.2 in
     let c = map-some (λ n. (a.0, b.0, n)) (one_number (drop 1 (drop 1 ws))) p b.2 in
     let x = first_number-some ws a.0 a.1 in
@@ -94,10 +100,11 @@ three_numbers-some ws p h =
     x.1 ∙ ap (λ (rest : List (List ℕ)). decimal a.0 ∷ rest) (y.1 ∙ ap (λ (rest : List (List ℕ)). decimal b.0 ∷ rest) z.1) in
     rw (← c.2) (x.0, y.0, z.0, text)
 
-placed-some : (ws : List (List ℕ)) (p : ℕ × ℕ × Payload) → placed ws ≡ Some p
+placed_payload-some : (ws : List (List ℕ)) (p : ℕ × ℕ × Payload) → placed_payload ws ≡ Some p
     → (p.0 < 2 ^ 64) × (p.1 < 2 ^ 64) × PayloadFits p.2 × (ws ≡ decimal p.0 ∷ decimal p.1 ∷ payload_word p.2 ∷ [])
-placed-some ws p h =
-    let a = and_then-some (λ o. option_and_then (λ at. option_map (λ q. (o, at, q)) (one_payload (drop 1 (drop 1 ws)))) (first_number (drop 1 ws))) (first_number ws) p h in
+placed_payload-some ws p h =
+    let a = and_then-some (λ o. option_and_then (λ at. option_map (λ q. (o, at, q))
+    (one_payload (drop 1 (drop 1 ws)))) (first_number (drop 1 ws))) (first_number ws) p h in
     let b = and_then-some (λ at. option_map (λ q. (a.0, at, q)) (one_payload (drop 1 (drop 1 ws)))) (first_number (drop 1 ws)) p a.2 in
     let c = map-some (λ q. (a.0, b.0, q)) (one_payload (drop 1 (drop 1 ws))) p b.2 in
     let x = first_number-some ws a.0 a.1 in
@@ -111,7 +118,8 @@ created-some : (o : ℕ) (ws : List (List ℕ)) (c : Command) → o < 2 ^ 64 →
     → CommandFits c × (codes "create" ∷ decimal o ∷ ws ≡ words_of c)
 created-some o [] c small h = rw (← some-inner (command.Create o None) c h) ((small, tt), refl)
 created-some o (w ∷ ws) c small h =
-    let t = and_then-some (λ t. if nat_le 1 t && nat_le t MAX_THRESHOLD then Some (command.Create o (Some t)) else None) (one_number (w ∷ ws)) c h in
+    let t = and_then-some (λ t. if nat_le 1 t && nat_le t MAX_THRESHOLD then Some (command.Create o (Some t)) else
+    None) (one_number (w ∷ ws)) c h in
     let within = if-some (nat_le 1 t.0 && nat_le t.0 MAX_THRESHOLD) (Some (command.Create o (Some t.0))) c t.2 in
     let parts = and_parts (nat_le 1 t.0) (nat_le t.0 MAX_THRESHOLD) within.0 in
     let text = one_number-some (w ∷ ws) t.0 t.1 in
@@ -133,6 +141,7 @@ unfolding command_in
 command_in-some Begin ws c h = bare Begin ws command.Begin c tt refl h
 command_in-some Commit ws c h = bare Commit ws command.Commit c tt refl h
 command_in-some Abort ws c h = bare Abort ws command.Abort c tt refl h
+command_in-some Status ws c h = bare Status ws command.Status c tt refl h
 command_in-some Create ws c h =
     let o = and_then-some (λ o. created o (drop 1 ws)) (first_number ws) c h in
     let first = first_number-some ws o.0 o.1 in
@@ -162,12 +171,12 @@ command_in-some Append ws c h =
     let text : ws ≡ decimal o.0 ∷ payload_word p.0 ∷ [] = first.1 ∙ ap (λ (rest : List (List ℕ)). decimal o.0 ∷ rest) last.1 in
     rw (← p.2) ((first.0, last.0), ap (λ (rest : List (List ℕ)). codes "append" ∷ rest) text)
 command_in-some Insert ws c h =
-    let p = map-some (λ p. command.Insert p.0 p.1 p.2) (placed ws) c h in
-    let text = placed-some ws p.0 p.1 in
+    let p = map-some (λ p. command.Insert p.0 p.1 p.2) (placed_payload ws) c h in
+    let text = placed_payload-some ws p.0 p.1 in
     rw (← p.2) ((text.0, text.1, text.2), ap (λ (rest : List (List ℕ)). codes "insert" ∷ rest) text.3)
 command_in-some Replace ws c h =
-    let p = map-some (λ p. command.Replace p.0 p.1 p.2) (placed ws) c h in
-    let text = placed-some ws p.0 p.1 in
+    let p = map-some (λ p. command.Replace p.0 p.1 p.2) (placed_payload ws) c h in
+    let text = placed_payload-some ws p.0 p.1 in
     rw (← p.2) ((text.0, text.1, text.2), ap (λ (rest : List (List ℕ)). codes "replace" ∷ rest) text.3)
 
 pub command_of-some : (ws : List (List ℕ)) (c : Command) → command_of ws ≡ Some c → CommandFits c × (ws ≡ words_of c)
@@ -185,23 +194,28 @@ one n h = ap (option_and_then (if_last [])) (number_of-decimal n h)
 
 three : (o at n : ℕ) → o < 2 ^ 64 → at < 2 ^ 64 → n < 2 ^ 64 → three_numbers (decimal o ∷ decimal at ∷ decimal n ∷ []) ≡ Some (o, at, n)
 three o at n ho ha hn =
-    ap (option_and_then (λ x. option_and_then (λ y. option_map (λ z. (x, y, z)) (one_number (decimal n ∷ []))) (number_of (decimal at)))) (number_of-decimal o ho)
+    ap (option_and_then (λ x. option_and_then (λ y. option_map (λ z. (x, y, z)) (one_number (decimal n ∷ [])))
+    (number_of (decimal at)))) (number_of-decimal o ho)
     ∙ ap (option_and_then (λ y. option_map (λ z. (o, y, z)) (one_number (decimal n ∷ [])))) (number_of-decimal at ha)
     ∙ ap (option_map (λ z. (o, at, z))) (one n hn)
 
-place : (o at : ℕ) (p : Payload) → o < 2 ^ 64 → at < 2 ^ 64 → PayloadFits p → placed (decimal o ∷ decimal at ∷ payload_word p ∷ []) ≡ Some (o, at, p)
+place : (o at : ℕ) (p : Payload) → o < 2 ^ 64 → at < 2 ^ 64 → PayloadFits p →
+    placed_payload (decimal o ∷ decimal at ∷ payload_word p ∷ []) ≡ Some (o, at, p)
 place o at p ho ha hp =
-    ap (option_and_then (λ x. option_and_then (λ y. option_map (λ z. (x, y, z)) (one_payload (payload_word p ∷ []))) (number_of (decimal at)))) (number_of-decimal o ho)
+    ap (option_and_then (λ x. option_and_then (λ y. option_map (λ z. (x, y, z)) (one_payload (payload_word p ∷ [])))
+    (number_of (decimal at)))) (number_of-decimal o ho)
     ∙ ap (option_and_then (λ y. option_map (λ z. (o, y, z)) (one_payload (payload_word p ∷ [])))) (number_of-decimal at ha)
     ∙ ap (option_map (λ z. (o, at, z))) (payload_of-word p hp)
 
-create-threshold : (o t : ℕ) → o < 2 ^ 64 → 1 ≤ t → t ≤ MAX_THRESHOLD → command_in Create (decimal o ∷ decimal t ∷ []) ≡ Some (command.Create o (Some t))
+create-threshold : (o t : ℕ) → o < 2 ^ 64 → 1 ≤ t → t ≤ MAX_THRESHOLD →
+    command_in Create (decimal o ∷ decimal t ∷ []) ≡ Some (command.Create o (Some t))
 unfolding command_in
 create-threshold o t ho low high =
     let a : nat_le 1 t ≡ true = le-leb 1 t low in
     let b : nat_le t MAX_THRESHOLD ≡ true = le-leb t MAX_THRESHOLD high in
     ap (option_and_then (λ x. created x (decimal t ∷ []))) (number_of-decimal o ho)
-    ∙ ap (option_and_then (λ x. if nat_le 1 x && nat_le x MAX_THRESHOLD then Some (command.Create o (Some x)) else None)) (one t (omega arith))
+    ∙ ap (option_and_then (λ x. if nat_le 1 x && nat_le x MAX_THRESHOLD then Some (command.Create o (Some x)) else
+    None)) (one t (omega arith))
     ∙ rw (a, b) refl
 
 pub command_of-words_of : (c : Command) → CommandFits c → command_of (words_of c) ≡ Some c
@@ -220,7 +234,7 @@ command_of-words_of (command.Delete o at n) h = ap (option_map (λ p. command.De
 command_of-words_of (command.Replace o at p) h = ap (option_map (λ q. command.Replace q.0 q.1 q.2)) (place o at p h.0 h.1 h.2)
 command_of-words_of command.Commit h = refl
 command_of-words_of command.Abort h = refl
-command_of-words_of command.Status h = absurd h
+command_of-words_of command.Status h = refl
 
 -- ---- no word of a command has a space
 
@@ -237,4 +251,4 @@ clean-words_of (command.Delete o at n) h = (refl, (clean-decimal o h.0, (clean-d
 clean-words_of (command.Replace o at p) h = (refl, (clean-decimal o h.0, (clean-decimal at h.1, (clean-payload p h.2, tt))))
 clean-words_of command.Commit h = (refl, tt)
 clean-words_of command.Abort h = (refl, tt)
-clean-words_of command.Status h = absurd h
+clean-words_of command.Status h = (refl, tt)

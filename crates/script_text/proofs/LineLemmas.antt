@@ -9,7 +9,7 @@ use Rattle.script_text.specs.Failing.{BringsBytes, Explains}
 use Rattle.script_text.specs.declared.line.LineFail.TheVariants.{Memory}
 use Rattle.script_text.specs.Reading.{command_of}
 use Rattle.script_text.specs.Words.{first_number, words}
-use Rattle.script_text.proofs.Choices.{some-inner}
+use Rattle.base_laws.proofs.OptionLaws.{some-inner}
 use Rattle.script_text.proofs.CommandLemmas.{clean-words_of, command_of-some, command_of-words_of, first_number-some}
 use Rattle.script_text.proofs.NumberLemmas.{number_of-decimal}
 use Rattle.script_text.proofs.PayloadLemmas.{clean-decimal}
@@ -44,7 +44,8 @@ line-found text s first low high h =
 line-words : (text : List ℕ) (l : Line) → IsLine text l → words text ≡ decimal l.session ∷ words_of l.command
 line-words text l h =
     ap words h.spelling
-    ∙ words-joined (decimal l.session) (words_of l.command) (clean-decimal l.session (omega (arith, h.session_high)), clean-words_of l.command h.command)
+    ∙ words-joined (decimal l.session) (words_of l.command)
+    (clean-decimal l.session (omega (arith, h.session_high)), clean-words_of l.command h.command)
 
 line-session : (text : List ℕ) (l : Line) → IsLine text l → first_number (words text) ≡ Some l.session
 line-session text l h = ap first_number (line-words text l h) ∙ number_of-decimal l.session (omega (arith, h.session_high))
@@ -83,6 +84,8 @@ pub line-unique : (text : List ℕ) (l m : Line) → IsLine text l → IsLine te
 line-unique text l m h k =
     let session : l.session ≡ m.session = session-is text l.session m (line-session text l h) k in
     let command : l.command ≡ m.command = some-inner l.command m.command (sym (line-command text l h) ∙ line-command text m k) in
-    let first : l ≡ record { session = m.session; command = l.command } = ap (λ (s : ℕ). record { session = s; command = l.command }) session in
-    let second : record { session = m.session; command = l.command } ≡ m = ap (λ (c : Command). record { session = m.session; command = c }) command in
+    let first : l ≡ record { session = m.session; command = l.command } =
+    ap (λ (s : ℕ). record { session = s; command = l.command }) session in
+    let second : record { session = m.session; command = l.command } ≡ m =
+    ap (λ (c : Command). record { session = m.session; command = c }) command in
     first ∙ second

@@ -1,17 +1,20 @@
 -- A word is read as the number whose digits it is.
-use Rattle.std.proofs.Common.{◌≡◌, ℕ, zero, suc, ◌^◌, ◌<◌, ◌≤◌, ◌&&◌, nat_lt, true, List, length, get_or, Some, None, Result, Ok, Err, decimal, refl, sym, ◌∙◌, ap, arith}
+use Rattle.std.proofs.Common.{◌≡◌, ℕ, zero, suc, ◌^◌, ◌<◌, ◌≤◌, ◌&&◌, nat_lt, true, List, length, get_or, Some}
+use Rattle.std.proofs.Common.{None, Result, Ok, Err, decimal, refl, sym, ◌∙◌, ap, arith}
 use Rattle.std.specs.Int.{IsInRange}
 use Rattle.std.specs.Result.{result_ok}
 use Rattle.std.specs.Str.{bytes_eq, IsUtf8}
 use Rattle.std.specs.Str.Parse.{AllDigits, ParsesUnsigned, digits_value}
 use Rattle.std.proofs.lemmas.Bool.{and_parts}
 use Rattle.std.proofs.lemmas.Bool.Decides.{Decides-ltb}
-use Rattle.std.proofs.lemmas.Fmt.{IsAscii-decimal, decimal-digits_value, decimal_digit, decimal_is_IsNumeral, decimal_nonempty, first_decimal, parse-decimal}
+use Rattle.std.proofs.lemmas.Fmt.{IsAscii-decimal, decimal-digits_value, decimal_digit, decimal_is_IsNumeral}
+use Rattle.std.proofs.lemmas.Fmt.{decimal_nonempty, first_decimal, parse-decimal}
 use Rattle.std.proofs.lemmas.Slice.Eq.{bytes_eq-Decides}
 use Rattle.std.proofs.lemmas.Str.{IsUtf8-from_ascii}
 use Rattle.std.proofs.lemmas.Str.Parse.{IsNumeralModel, digit_at, numerals_by_value, parse_plain, tells_digits}
 use Rattle.script_text.specs.Words.{number_of}
-use Rattle.script_text.proofs.Choices.{if-some, none-from, some-inner}
+use Rattle.base_laws.proofs.OptionLaws.{some-inner}
+use Rattle.script_text.proofs.Choices.{if-some, none-from}
 
 own : IsNumeralModel (AllDigits 10) (digits_value 10)
 own = numerals_by_value (AllDigits 10) tells_digits
@@ -20,7 +23,8 @@ own = numerals_by_value (AllDigits 10) tells_digits
 pub number_of-some : (word : List ℕ) (n : ℕ) → number_of word ≡ Some n → (n < 2 ^ 64) × (word ≡ decimal n)
 unfolding number_of
 number_of-some word n h =
-    let found = if-some (bytes_eq (decimal (digits_value 10 word)) word && nat_lt (digits_value 10 word) (2 ^ 64)) (Some (digits_value 10 word)) n h in
+    let found = if-some (bytes_eq (decimal (digits_value 10 word)) word && nat_lt (digits_value 10 word) (2 ^ 64))
+    (Some (digits_value 10 word)) n h in
     let parts = and_parts (bytes_eq (decimal (digits_value 10 word)) word) (nat_lt (digits_value 10 word) (2 ^ 64)) found.0 in
     let same : digits_value 10 word ≡ n = some-inner (digits_value 10 word) n found.1 in
     let small : digits_value 10 word < 2 ^ 64 = (Decides-ltb (digits_value 10 word) (2 ^ 64)).0 parts.1 in
@@ -28,7 +32,8 @@ number_of-some word n h =
     (rw (← same) small, sym text ∙ ap decimal same)
 
 -- where a word has the digits of its value, it is read as that
-pub number_of-value : (word : List ℕ) → digits_value 10 word < 2 ^ 64 → decimal (digits_value 10 word) ≡ word → number_of word ≡ Some (digits_value 10 word)
+pub number_of-value : (word : List ℕ) → digits_value 10 word < 2 ^ 64 → decimal (digits_value 10 word) ≡ word →
+    number_of word ≡ Some (digits_value 10 word)
 unfolding number_of
 number_of-value word small text =
     let a : bytes_eq (decimal (digits_value 10 word)) word ≡ true = (bytes_eq-Decides (decimal (digits_value 10 word)) word).1 text in

@@ -1,5 +1,8 @@
 -- A payload is read as it is spelled.
-use Rattle.std.proofs.Common.{◌≡◌, ℕ, zero, suc, ◌+◌, ◌*◌, ◌/◌, ◌%◌, ◌^◌, ◌<◌, ◌==◌, ◌&&◌, nat_lt, Bool, true, false, not, List, [], ◌∷◌, ◌++◌, length, take, drop, slice_index, Option, Some, None, Result, Ok, Err, decimal, if◌then◌else◌, refl, sym, ◌∙◌, ap, arith, inl, inr, length-append}
+use Rattle.std.proofs.Common.{◌≡◌, ℕ, zero, suc, ◌+◌, ◌*◌, ◌/◌, ◌%◌, ◌^◌, ◌<◌, ◌==◌, ◌&&◌, nat_lt, Bool, true}
+use Rattle.std.proofs.Common.{false, not, List, [], ◌∷◌, ◌++◌, length, take, drop, slice_index, Option, Some, None}
+use Rattle.std.proofs.Common.{Result, Ok, Err, decimal, if◌then◌else◌, refl, sym, ◌∙◌, ap, arith, inl, inr}
+use Rattle.std.proofs.Common.{length-append}
 use Rattle.std.specs.Prelude.{IsSomeAnd, position}
 use Rattle.std.specs.Int.{IsInRange}
 use Rattle.std.specs.List.{AllPass, join_with_byte, list_all, position_or_len, slice_split}
@@ -14,7 +17,8 @@ use Rattle.std.proofs.lemmas.List.Elements.{All-cons, All-nil}
 use Rattle.std.proofs.lemmas.List.Splits.{join_with_byte-slice_split, slice_split_first}
 use Rattle.std.proofs.lemmas.Str.Parse.{digit_from_value}
 use Rattle.std.proofs.Math.Seq.{drop-append_seam, take-append_seam}
-use Rattle.hex.specs.Hex.{IsBytes, decode_of, decode_pairs, digit_or_error, encode_lower, encode_with, hex_digit_value, is_hex_digit, lower_digits, pair_value, value_at}
+use Rattle.hex.specs.Hex.{IsBytes, decode_of, decode_pairs, digit_or_error, encode_lower, encode_with}
+use Rattle.hex.specs.Hex.{hex_digit_value, is_hex_digit, lower_digits, pair_value, value_at}
 use Rattle.hex.specs.declared.error.FromHexError.{FromHexError}
 use Rattle.hex.proofs.HexLemmas.{decode_of-digits, decode_of-encode_lower, decode_of-even, decode_of-ok, length-encode_with}
 use Rattle.hex.proofs.Pairs.{cons_byte, decode_pairs-ok_pair}
@@ -24,7 +28,8 @@ use Rattle.script_model.specs.Grammar.{PayloadFits, payload_word}
 use Rattle.script_text.specs.Failing.{IsGiven}
 use Rattle.script_text.specs.Reading.{given_of, is_dot, is_lower_digit, made_of, one_payload, payload_of}
 use Rattle.script_text.specs.Words.{is_space, number_of}
-use Rattle.script_text.proofs.Choices.{and_then-some, if-some, map-some, some-inner}
+use Rattle.base_laws.proofs.OptionLaws.{some-inner}
+use Rattle.script_text.proofs.Choices.{and_then-some, if-some, map-some}
 use Rattle.script_text.proofs.NumberLemmas.{number_of-decimal, number_of-some}
 use Rattle.script_text.proofs.WordLemmas.{is_clean, parts-some, position-some}
 
@@ -104,7 +109,8 @@ encode-decoded i (a ∷ b ∷ rest) bytes low h =
     let ha : value_at a i ≡ Ok va.0 = ap (digit_or_error a i) va.1 in
     let hb : value_at b (i + 1) ≡ Ok vb.0 = ap (digit_or_error b (i + 1)) vb.1 in
     let pair : pair_value a b i ≡ Ok (va.0 * 16 + vb.0) = rw (ha, hb) refl in
-    let all = cons_byte-ok (va.0 * 16 + vb.0) (decode_pairs (i + 2) rest) bytes (sym (decode_pairs-ok_pair i a b (va.0 * 16 + vb.0) rest pair) ∙ h) in
+    let all = cons_byte-ok (va.0 * 16 + vb.0)
+    (decode_pairs (i + 2) rest) bytes (sym (decode_pairs-ok_pair i a b (va.0 * 16 + vb.0) rest pair) ∙ h) in
     let more = encode-decoded (i + 2) rest all.0 second.1 all.1 in
     let high : (va.0 * 16 + vb.0) / 16 ≡ va.0 = omega arith in
     let under : (va.0 * 16 + vb.0) % 16 ≡ vb.0 = omega arith in
@@ -122,7 +128,8 @@ given_of-some digits bytes h =
     let ok = ok-some (decode_of digits) bytes found.1 in
     ((decode_of-ok digits bytes ok).3, sym (encode-decoded 0 digits bytes parts.1 (sym (decode_of-even digits even) ∙ ok)))
 
-given_of-tested : (digits : List ℕ) → length digits % 2 ≡ 0 → list_all is_lower_digit digits ≡ true → given_of digits ≡ result_ok (decode_of digits)
+given_of-tested : (digits : List ℕ) → length digits % 2 ≡ 0 → list_all is_lower_digit digits ≡ true →
+    given_of digits ≡ result_ok (decode_of digits)
 given_of-tested digits even low =
     let e : (length digits % 2 == 0) ≡ true = (Decides-eqb (length digits % 2) 0).1 even in
     rw (e, low) refl
@@ -186,7 +193,8 @@ first-position p w x rest h e =
     rw (at, within) refl
 
 -- parts joined: the first, the separator, and the others joined
-join-more : (c : ℕ) (x : List ℕ) (parts : List (List ℕ)) → (length parts ≡ 0 → ⊥) → join_with_byte c (x ∷ parts) ≡ x ++ c ∷ join_with_byte c parts
+join-more : (c : ℕ) (x : List ℕ) (parts : List (List ℕ)) → (length parts ≡ 0 → ⊥) →
+    join_with_byte c (x ∷ parts) ≡ x ++ c ∷ join_with_byte c parts
 join-more c x [] h = absurd (h refl)
 join-more c x (y ∷ parts) h = refl
 
@@ -199,15 +207,23 @@ cut-dot text at h =
     let moved : drop 1 (drop at text) ≡ drop (at + 1) text = drop-drop 1 at text in
     let whole : text ≡ take (position_or_len is_dot text) text ++ 46 ∷ drop (position_or_len is_dot text + 1) text =
     sym (join_with_byte-slice_split 46 text) ∙ ap (join_with_byte 46) split
-    ∙ join-more 46 (take (position_or_len is_dot text) text) (slice_split is_dot (drop (position_or_len is_dot text + 1) text)) (parts-some is_dot (drop (position_or_len is_dot text + 1) text))
-    ∙ ap (λ (rest : List ℕ). take (position_or_len is_dot text) text ++ 46 ∷ rest) (join_with_byte-slice_split 46 (drop (position_or_len is_dot text + 1) text)) in
+    ∙ join-more 46 (take (position_or_len is_dot text) text)
+    (slice_split is_dot (drop (position_or_len is_dot text + 1) text))
+    (parts-some is_dot (drop (position_or_len is_dot text + 1) text))
+    ∙ ap (λ (rest : List ℕ). take (position_or_len is_dot text) text ++ 46 ∷ rest)
+    (join_with_byte-slice_split 46 (drop (position_or_len is_dot text + 1) text)) in
     rw moved (rw found.0 at whole)
 
 pub made_of-some : (text : List ℕ) (p : Payload) → made_of text ≡ Some p → PayloadFits p × (114 ∷ text ≡ payload_word p)
 made_of-some text p h =
-    let cut = and_then-some (λ at. option_and_then (λ n. option_and_then (λ start. if nat_lt start (2 ^ 32) then Some (Made n start) else None) (number_of (drop 1 (drop at text)))) (number_of (take at text))) (position is_dot text) p h in
-    let len = and_then-some (λ n. option_and_then (λ start. if nat_lt start (2 ^ 32) then Some (Made n start) else None) (number_of (drop 1 (drop cut.0 text)))) (number_of (take cut.0 text)) p cut.2 in
-    let start = and_then-some (λ start. if nat_lt start (2 ^ 32) then Some (Made len.0 start) else None) (number_of (drop 1 (drop cut.0 text))) p len.2 in
+    let cut = and_then-some (λ at. option_and_then
+    (λ n. option_and_then (λ start. if nat_lt start (2 ^ 32) then Some (Made n start) else None)
+    (number_of (drop 1 (drop at text)))) (number_of (take at text))) (position is_dot text) p h in
+    let len = and_then-some (λ n. option_and_then
+    (λ start. if nat_lt start (2 ^ 32) then Some (Made n start) else None)
+    (number_of (drop 1 (drop cut.0 text)))) (number_of (take cut.0 text)) p cut.2 in
+    let start = and_then-some (λ start. if nat_lt start (2 ^ 32) then Some (Made len.0 start) else None)
+    (number_of (drop 1 (drop cut.0 text))) p len.2 in
     let small = if-some (nat_lt start.0 (2 ^ 32)) (Some (Made len.0 start.0)) p start.2 in
     let made = some-inner (Made len.0 start.0) p small.1 in
     let n = number_of-some (take cut.0 text) len.0 len.1 in

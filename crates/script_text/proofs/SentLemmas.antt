@@ -1,55 +1,39 @@
 -- A text that goes out in several calls of a sink.
-use Rattle.std.proofs.Common.{◌≡◌, ℕ, ◌+◌, ◌≤◌, ◌==◌, Bool, true, Result, Ok, Err, List, [], ◌∷◌, ◌++◌, length, take, drop, codes, decimal, Option, Some, None, refl, sym, ◌∙◌, ap, arith, append_assoc, length-append}
-use Rattle.std.specs.Prelude.{OnErr, OnOk}
+use Rattle.std.proofs.Common.{◌≡◌, ℕ, ◌+◌, ◌≤◌, ◌==◌, Bool, true, List, [], ◌∷◌, ◌++◌, length, take, drop, codes}
+use Rattle.std.proofs.Common.{decimal, Option, Some, None, refl, sym, ◌∙◌, ap, arith, append_assoc, length-append}
 use Rattle.std.proofs.lemmas.Bool.{eqb-true}
 use Rattle.std.proofs.lemmas.List.{append-nil, take-append-drop, take-append-le}
 use Rattle.std.proofs.Math.Seq.{take-append-add}
 use Rattle.edge_io.specs.Moved.{Appends, AppendsPart}
-use Rattle.edge_io.proofs.MovedLemmas.{Appends-append}
+use Rattle.edge_io.proofs.MovedLaws.{Appends-append, appends-none}
 use Rattle.hex.specs.Hex.{encode_lower, encode_with, lower_digits}
 use Rattle.eos_ops.specs.declared.reply.Reply.{Reply}
 use Rattle.eos_ops.specs.declared.reply.Reply.TheVariants as reply
 use Rattle.script_model.specs.Replies.{reply_line, reply_words}
-use Rattle.script_text.specs.Parts.{bytes_in, fixed_text, number_text}
+use Rattle.script_text.specs.Parts.{reply_bytes, fixed_text, number_text}
 use Rattle.script_text.specs.Sent.{Sent}
-
--- what follows from an outcome's clause
-pub on-ok : {T E : Type 0} (r : Result T E) (P Q : Type 0) → (P → Q) → OnOk r P → OnOk r Q
-on-ok (Ok x) P Q f h = f h
-on-ok (Err e) P Q f h = tt
-
-pub on-err : {T E : Type 0} (r : Result T E) (P Q : Type 0) → (P → Q) → OnErr r P → OnErr r Q
-on-err (Ok x) P Q f h = tt
-on-err (Err e) P Q f h = f h
-
-pub always-on-err : {T E : Type 0} (r : Result T E) (P : Type 0) → P → OnErr r P
-always-on-err (Ok x) P h = tt
-always-on-err (Err e) P h = h
 
 -- a list that is found empty
 pub is_empty-nil : (xs : List ℕ) (b : Bool) → b ≡ (length xs == 0) → b ≡ true → xs ≡ []
 is_empty-nil [] b p q = refl
 is_empty-nil (x ∷ xs) b p q = absurd (omega (arith, eqb-true (length (x ∷ xs)) 0 (sym p ∙ q)))
 
--- nothing was appended
-Appends-nil : (before : Option (List ℕ)) → Appends [] before before
-Appends-nil None = refl
-Appends-nil (Some taken) = ap Some (sym (append-nil taken))
-
 pub Sent-nothing : (whole : List ℕ) (before : Option (List ℕ)) → Sent whole whole before before
-Sent-nothing whole before = ([], refl, Appends-nil before)
+Sent-nothing whole before = ([], refl, appends-none before)
 
 -- the front of what is left goes out in part
 pub Sent-more : (whole d d2 rest : List ℕ) (before mid now : Option (List ℕ)) → Sent whole (d ++ rest) before mid → Sent d d2 mid now
     → Sent whole (d2 ++ rest) before now
 Sent-more whole d d2 rest before mid now p q = (
   p.0 ++ q.0,
-  p.1 ∙ ap (λ (x : List ℕ). p.0 ++ (x ++ rest)) q.1 ∙ ap (λ (x : List ℕ). p.0 ++ x) (append_assoc q.0 d2 rest) ∙ sym (append_assoc p.0 q.0 (d2 ++ rest)),
+  p.1 ∙ ap (λ (x : List ℕ). p.0 ++ (x ++ rest)) q.1 ∙ ap (λ (x : List ℕ). p.0 ++ x) (append_assoc q.0 d2 rest)
+      ∙ sym (append_assoc p.0 q.0 (d2 ++ rest)),
   Appends-append p.0 q.0 before mid now p.2 q.2,
 )
 
 -- all that is left goes out
-pub Sent-all : (whole d : List ℕ) (before mid now : Option (List ℕ)) → Sent whole d before mid → Appends d mid now → Appends whole before now
+pub Sent-all : (whole d : List ℕ) (before mid now : Option (List ℕ)) → Sent whole d before mid → Appends d mid now →
+    Appends whole before now
 Sent-all whole d before mid now p q = rw p.1 (Appends-append p.0 d before mid now p.2 q)
 
 -- a part of what is left goes out, and then no more
@@ -72,7 +56,8 @@ encode-append [] y = refl
 encode-append (b ∷ x) y = rw (encode-append x y) refl
 
 -- the front of the bytes is put into the draft
-pub Sent-encoded : (whole d bytes : List ℕ) (n : ℕ) (before now : Option (List ℕ)) → Sent whole (d ++ (encode_lower bytes ++ 10 ∷ [])) before now
+pub Sent-encoded : (whole d bytes : List ℕ) (n : ℕ) (before now : Option (List ℕ)) →
+    Sent whole (d ++ (encode_lower bytes ++ 10 ∷ [])) before now
     → Sent whole ((d ++ encode_lower (take n bytes)) ++ (encode_lower (drop n bytes) ++ 10 ∷ [])) before now
 Sent-encoded whole d bytes n before now p =
     let split : encode_lower bytes ≡ encode_lower (take n bytes) ++ encode_lower (drop n bytes) =
@@ -84,13 +69,14 @@ Sent-encoded whole d bytes n before now p =
     (p.0, p.1 ∙ ap (λ (x : List ℕ). p.0 ++ x) moved, p.2)
 
 -- no bytes are left
-pub Sent-encoded_nil : (whole d bytes : List ℕ) (before now : Option (List ℕ)) → bytes ≡ [] → Sent whole (d ++ (encode_lower bytes ++ 10 ∷ [])) before now
+pub Sent-encoded_nil : (whole d bytes : List ℕ) (before now : Option (List ℕ)) → bytes ≡ [] →
+    Sent whole (d ++ (encode_lower bytes ++ 10 ∷ [])) before now
     → Sent whole (d ++ 10 ∷ []) before now
 unfolding encode_with
 Sent-encoded_nil whole d bytes before now e p = rw e at p
 
 -- the words of a reply are its three parts
-words-parts : (r : Reply) → fixed_text r ++ (number_text r ++ encode_lower (bytes_in r)) ≡ reply_words r
+words-parts : (r : Reply) → fixed_text r ++ (number_text r ++ encode_lower (reply_bytes r)) ≡ reply_words r
 unfolding encode_with
 words-parts reply.Ok = refl
 words-parts (reply.Length n) = ap (λ (x : List ℕ). codes "length " ++ x) (append-nil (decimal n))
@@ -108,16 +94,18 @@ words-parts reply.Idle = refl
 words-parts reply.Active = refl
 words-parts reply.TooLong = refl
 words-parts reply.Worn = refl
-words-parts (reply.Status f l h) = ap (λ (x : List ℕ). codes "status " ++ x) (append-nil (decimal f ++ (codes " " ++ (decimal l ++ (codes " " ++ decimal h)))))
+words-parts (reply.Status f l h) = ap (λ (x : List ℕ). codes "status " ++ x)
+    (append-nil (decimal f ++ (codes " " ++ (decimal l ++ (codes " " ++ decimal h)))))
 words-parts reply.Again = refl
 
 -- the line of a reply, as it is put together
-pub line-parts : (s : ℕ) (r : Reply) → (((decimal s ++ codes " ") ++ fixed_text r) ++ number_text r) ++ (encode_lower (bytes_in r) ++ 10 ∷ []) ≡ reply_line s r
+pub line-parts : (s : ℕ) (r : Reply) → (((decimal s ++ codes " ") ++ fixed_text r) ++ number_text r)
+    ++ (encode_lower (reply_bytes r) ++ 10 ∷ []) ≡ reply_line s r
 line-parts s r =
-    append_assoc ((decimal s ++ codes " ") ++ fixed_text r) (number_text r) (encode_lower (bytes_in r) ++ 10 ∷ [])
-    ∙ append_assoc (decimal s ++ codes " ") (fixed_text r) (number_text r ++ (encode_lower (bytes_in r) ++ 10 ∷ []))
-    ∙ append_assoc (decimal s) (codes " ") (fixed_text r ++ (number_text r ++ (encode_lower (bytes_in r) ++ 10 ∷ [])))
+    append_assoc ((decimal s ++ codes " ") ++ fixed_text r) (number_text r) (encode_lower (reply_bytes r) ++ 10 ∷ [])
+    ∙ append_assoc (decimal s ++ codes " ") (fixed_text r) (number_text r ++ (encode_lower (reply_bytes r) ++ 10 ∷ []))
+    ∙ append_assoc (decimal s) (codes " ") (fixed_text r ++ (number_text r ++ (encode_lower (reply_bytes r) ++ 10 ∷ [])))
     ∙ ap (λ (x : List ℕ). decimal s ++ (codes " " ++ x))
-    (ap (λ (x : List ℕ). fixed_text r ++ x) (sym (append_assoc (number_text r) (encode_lower (bytes_in r)) (10 ∷ [])))
-    ∙ sym (append_assoc (fixed_text r) (number_text r ++ encode_lower (bytes_in r)) (10 ∷ []))
+    (ap (λ (x : List ℕ). fixed_text r ++ x) (sym (append_assoc (number_text r) (encode_lower (reply_bytes r)) (10 ∷ [])))
+    ∙ sym (append_assoc (fixed_text r) (number_text r ++ encode_lower (reply_bytes r)) (10 ∷ []))
     ∙ ap (λ (x : List ℕ). x ++ 10 ∷ []) (words-parts r))

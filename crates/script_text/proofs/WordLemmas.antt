@@ -1,5 +1,7 @@
 -- Words cut from a text, and put together again.
-use Rattle.std.proofs.Common.{◌≡◌, ℕ, suc, ◌+◌, ◌<◌, ◌≤◌, ◌==◌, nat_lt, Bool, true, false, not, cond, inl, inr, List, [], ◌∷◌, ◌++◌, length, take, drop, Option, Some, None, Bor, refl, sym, ◌∙◌, ap, arith}
+use Rattle.std.proofs.Common.{◌≡◌, ℕ, suc, ◌+◌, ◌<◌, ◌≤◌, ◌==◌, nat_lt, Bool, true, false, not, cond, inl, inr}
+use Rattle.std.proofs.Common.{List, [], ◌∷◌, ◌++◌, length, take, drop, Option, Some, None, Bor, refl, sym, ◌∙◌, ap}
+use Rattle.std.proofs.Common.{arith}
 use Rattle.std.specs.Prelude.{is_some, position}
 use Rattle.std.specs.List.{join_with_byte, list_all, onto_first, position_or_len, slice_split}
 use Rattle.std.specs.Option.{option_copied}
@@ -8,7 +10,8 @@ use Rattle.std.proofs.lemmas.Bool.Decides.{Decides-ltb}
 use Rattle.std.proofs.lemmas.List.{drop-drop}
 use Rattle.std.proofs.lemmas.List.Splits.{length-slice_split, slice_split_first}
 use Rattle.script_text.specs.Words.{is_space, words, words_left}
-use Rattle.script_text.proofs.Choices.{if-some, some-inner}
+use Rattle.base_laws.proofs.OptionLaws.{some-inner}
+use Rattle.script_text.proofs.Choices.{if-some}
 
 -- a text has a part
 pub parts-some : (p : ℕ → Bool) (text : List ℕ) → length (slice_split p text) ≡ 0 → ⊥
@@ -18,7 +21,8 @@ pub words-some : (text : List ℕ) → (length (words text) == 0) ≡ false
 words-some text = ne_eqb (length (words text)) 0 (parts-some is_space text)
 
 -- whether words are left
-pub words-over : (rest : Option (Bor (List ℕ))) (over : Bool) → is_some rest ≡ not over → over ≡ (length (words_left (option_copied rest)) == 0)
+pub words-over : (rest : Option (Bor (List ℕ))) (over : Bool) → is_some rest ≡ not over →
+    over ≡ (length (words_left (option_copied rest)) == 0)
 words-over None true h = refl
 words-over None false h = cc
 words-over (Some text) true h = cc

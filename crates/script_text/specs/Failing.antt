@@ -1,7 +1,9 @@
 -- Why a line wasn't read.
 use Rattle.std.specs.Prelude.{ℕ, List}
 use Rattle.eos_ops.specs.declared.command.Command.{Command}
-use Rattle.eos_ops.specs.declared.command.Command.TheVariants.{Begin, Create, Destroy, Length, Read, Append, Insert, Delete, Replace, Commit, Abort, Status}
+use Rattle.eos_ops.specs.declared.command.Command.TheVariants.{Begin, Create, Destroy, Length}
+use Rattle.eos_ops.specs.declared.command.Command.TheVariants.{Read, Append, Insert, Delete}
+use Rattle.eos_ops.specs.declared.command.Command.TheVariants.{Replace, Commit, Abort, Status}
 use Rattle.eos_ops.specs.declared.payload.Payload.{Payload}
 use Rattle.eos_ops.specs.declared.payload.Payload.TheVariants.{Given, Made}
 use Rattle.script_model.specs.Grammar.{IsLine, IsNoLine}
@@ -28,8 +30,9 @@ BringsBytes Commit = ⊥
 BringsBytes Abort = ⊥
 BringsBytes Status = ⊥
 
--- `Bad` says that the text is in no form of the grammar, and `Memory` comes only where it is in one, with its
--- session, and brings bytes
+-- `Bad` says that the text is in no form of the grammar, and `Memory` comes only where it is in
+-- one, with its session, and brings bytes
 abbrev pub Explains : List ℕ → LineFail → Type 0
 Explains text Bad = IsNoLine text
-Explains text (Memory session) = (c : Command) × IsLine text (record { session = session; command = c }) × BringsBytes c
+Explains text (Memory session) = (c : Command)
+    × IsLine text (record { session = session; command = c }) × BringsBytes c

@@ -27,9 +27,10 @@ abbrev pub number_text : Reply → List ℕ
 number_text (reply.Length n) = decimal n
 number_text (reply.Range n) = decimal n
 number_text (reply.NoSpace n) = decimal n
-number_text (reply.Status free locked held) = decimal free ++ (codes " " ++ (decimal locked ++ (codes " " ++ decimal held)))
+number_text (reply.Status free locked held) =
+    decimal free ++ (codes " " ++ (decimal locked ++ (codes " " ++ decimal held)))
 number_text r = []
 
-abbrev pub bytes_in : Reply → List ℕ
-bytes_in (reply.Bytes bytes) = bytes
-bytes_in r = []
+abbrev pub reply_bytes : Reply → List ℕ
+reply_bytes (reply.Bytes bytes) = bytes
+reply_bytes r = []

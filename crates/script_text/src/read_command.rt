@@ -1,7 +1,7 @@
 //! The words after the session as a command.
 ghost use Rattle.std.specs.Prelude.{◌≡◌, IfOk, OnErr, IsSomeAnd};
 ghost use Rattle.script_text.specs.Failing.{BringsBytes, IsGiven};
-ghost use Rattle.script_text.specs.Reading.{command_in, command_of, placed};
+ghost use Rattle.script_text.specs.Reading.{command_in, command_of, placed_payload};
 ghost use Rattle.script_text.specs.Words.{if_last};
 
 use crate::arguments::{read_one, read_three};
@@ -49,6 +49,7 @@ fn arguments_of(
         Verb::Replace => read_replace(alloc, words),
         Verb::Commit => Ok(read_bare(words, Command::Commit)),
         Verb::Abort => Ok(read_bare(words, Command::Abort)),
+        Verb::Status => Ok(read_bare(words, Command::Status)),
     }
 }
 
@@ -163,8 +164,8 @@ fn read_placed(
     alloc: Global,
     words: &mut Words<'_>,
 ) -> Result<Option<(u64, u64, Payload)>, AllocError>
-    ensures ok { IfOk result (λ found. found ≡ placed words.old) }
-    ensures memory { OnErr result (IsSomeAnd (placed words.old) (λ p. IsGiven p.2)) }
+    ensures ok { IfOk result (λ found. found ≡ placed_payload words.old) }
+    ensures memory { OnErr result (IsSomeAnd (placed_payload words.old) (λ p. IsGiven p.2)) }
 {
     let Some(object) = words.next_number() else {
         return Ok(None);

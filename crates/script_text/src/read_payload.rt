@@ -4,7 +4,8 @@ ghost use Rattle.std.specs.Option.{option_map};
 ghost use Rattle.eos_ops.specs.declared.payload.Payload.TheVariants as Payload;
 ghost use Rattle.std.specs.List.{list_all};
 ghost use Rattle.script_text.specs.Failing.{IsGiven};
-ghost use Rattle.script_text.specs.Reading.{given_of, is_dot, is_lower_digit, made_of, one_payload, payload_of};
+ghost use Rattle.script_text.specs.Reading.{given_of, is_dot, is_lower_digit, made_of, one_payload};
+ghost use Rattle.script_text.specs.Reading.{payload_of};
 
 use crate::number::read_number;
 use crate::words::Words;
@@ -47,7 +48,8 @@ fn payload_in(alloc: Global, word: &[u8]) -> Result<Option<Payload>, AllocError>
 // The bytes that lower-case hexadecimal digits spell.
 fn given_in(alloc: Global, digits: &[u8]) -> Result<Option<Payload>, AllocError>
     ensures ok { IfOk result (λ payload. payload ≡ option_map Payload.Given (given_of digits.now)) }
-    ensures memory { OnErr result (IsSomeAnd (option_map Payload.Given (given_of digits.now)) IsGiven) }
+    ensures memory { OnErr result (IsSomeAnd (option_map Payload.Given (given_of digits.now))
+        IsGiven) }
 {
     if digits.len() % 2 != 0 {
         return Ok(None);

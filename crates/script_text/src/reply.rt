@@ -1,10 +1,11 @@
 //! The line of a reply.
-ghost use Rattle.std.specs.Prelude.{◌≡◌, ◌+◌, ◌∷◌, [], ◌++◌, ◌≤◌, length, codes, decimal, OnOk, OnErr};
-ghost use Rattle.edge_io.specs.Cause.{HasCause};
+ghost use Rattle.std.specs.Prelude.{◌≡◌, ◌+◌, ◌∷◌, [], ◌++◌, ◌≤◌, length, codes, decimal, OnOk};
+ghost use Rattle.std.specs.Prelude.{OnErr};
+ghost use Rattle.fault_count.specs.Counts.{HasCause};
 ghost use Rattle.edge_io.specs.Moved.{Appends, AppendsPart};
 ghost use Rattle.hex.specs.Hex.{encode_lower};
 ghost use Rattle.script_model.specs.Replies.{no_line_reply, reply_line};
-ghost use Rattle.script_text.specs.Parts.{bytes_in, fixed_text, number_text};
+ghost use Rattle.script_text.specs.Parts.{reply_bytes, fixed_text, number_text};
 ghost use Rattle.script_text.specs.Sent.{Sent};
 
 use crate::draft::{CAPACITY, Draft};
@@ -114,7 +115,7 @@ fn push_counts(draft: &mut Draft, free: u32, locked: u32, held: u32)
 
 // The bytes of a reply.
 fn bytes_of(reply: &Reply) -> &[u8]
-    ensures { result.now ≡ bytes_in reply.now }
+    ensures { result.now ≡ reply_bytes reply.now }
 {
     match reply {
         Reply::Bytes(bytes) => bytes.as_slice(),
@@ -144,9 +145,12 @@ fn write_hex_line<O: Sink>(draft: &mut Draft, bytes: &[u8], sink: &mut O) -> Res
     write_all(sink, draft.as_slice())
 }
 
-// Writes the draft where it has no room for so many bytes more.
+// Writes the draft where it has no room for so many bytes more. Where it has room, draft and sink
+// are left alone.
 fn make_room<O: Sink>(draft: &mut Draft, count: usize, sink: &mut O) -> Result<(), SinkFail>
     requires { count ≤ CAPACITY }
+    ensures alone { length draft.old + count ≤ CAPACITY →
+        (result ≡ Ok tt) × (draft.new ≡ draft.old) × (sink.new ≡ sink.old) }
     ensures room { OnOk result (length draft.new + count ≤ CAPACITY) }
     ensures sent { OnOk result
         (Sent draft.old draft.new (O.written sink.old) (O.written sink.new)) }

@@ -1,5 +1,5 @@
-//! What no clause says: that the calls succeed with ample memory, the worked texts, and that a short
-//! reply is one call of the sink.
+//! What no clause says: that the calls succeed with ample memory, the worked texts, and that a
+//! short reply is one call of the sink.
 use crate::{Draft, LineFail, payload, read_line, write_no_line, write_reply, write_reply_with};
 use edge_io::{MemSink, SinkFail};
 use eos_ops::{Bytes, Payload, Reply};
@@ -21,6 +21,7 @@ fn a_line_is_read_just_where_it_is_in_a_form(rt: HostRuntime) -> Result<(), Fail
         b"1 replace 0 5 r1048577.0",
         b"1 commit",
         b"1 abort",
+        b"1 status",
     ];
     for line in forms {
         assert!(rt; read_line(rt.alloc(), line).is_ok(), "{line:?}");
@@ -38,7 +39,7 @@ fn a_line_is_read_just_where_it_is_in_a_form(rt: HostRuntime) -> Result<(), Fail
         b"1 begin\r",
         b"1 begin 0",
         b"1 frob",
-        b"1 status",
+        b"1 status 0",
         b"1 create",
         b"1 create 00",
         b"1 create 18446744073709551616",
@@ -131,6 +132,30 @@ fn each_reply_is_one_line_and_one_call(rt: HostRuntime) -> Result<(), Fail> {
     let mut sink = MemSink::new(rt.alloc(), vec![in rt.alloc(); 2]?);
     assert!(rt; write_no_line(&mut sink).is_ok());
     assert_eq!(rt; sink.written(), b"?\n".as_slice());
+    Ok(())
+}
+
+#[test]
+fn a_reply_that_fits_the_buffer_is_one_call(rt: HostRuntime) -> Result<(), Fail> {
+    // How many bytes the reply has, and whether the second call of the sink, which would fail,
+    // comes.
+    let sizes = [
+        (28, false),
+        (29, false),
+        (45, false),
+        (100, false),
+        (1000, false),
+        (2000, false),
+        (2043, false),
+        (2044, true),
+    ];
+    let mut draft = Draft::new();
+    for (len, comes) in sizes {
+        let reply = Reply::Bytes(Bytes::from_vec(vec![in rt.alloc(); 0x41; len]?));
+        let mut sink = MemSink::new(rt.alloc(), vec![in rt.alloc(); 2]?);
+        let done = write_reply_with(&mut draft, 7, &reply, &mut sink);
+        assert_eq!(rt; done.is_err(), comes, "{len} bytes");
+    }
     Ok(())
 }
 

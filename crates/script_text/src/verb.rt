@@ -15,6 +15,7 @@ pub enum Verb {
     Replace,
     Commit,
     Abort,
+    Status,
 }
 
 impl Verb {
@@ -57,6 +58,9 @@ impl Verb {
         }
         if word == b"abort".as_slice() {
             return Some(Verb::Abort);
+        }
+        if word == b"status".as_slice() {
+            return Some(Verb::Status);
         }
         None
     }

@@ -1,5 +1,6 @@
 //! The words of a line, one after the other.
-ghost use Rattle.std.specs.Prelude.{◌≡◌, ◌==◌, [], ◌∷◌, drop, length, position, MatchOption, OnSome};
+ghost use Rattle.std.specs.Prelude.{◌≡◌, ◌==◌, [], ◌∷◌, drop, length, position, MatchOption};
+ghost use Rattle.std.specs.Prelude.{OnSome};
 ghost use Rattle.script_text.specs.Words.{first_number, is_space, words};
 
 use crate::number::read_number;

@@ -1,6 +1,5 @@
 pub mod PageCounts
 pub mod Runs
-pub mod Meters
 pub mod Overwrites
 pub mod Reading
 pub mod Writing

@@ -23,7 +23,8 @@ IsOverwritten-more first a n old new h within = record {
   room = h.room;
 }
 
-pub IsOverwritten-then : (first a b n : ℕ) (old mid new : Held) → IsOverwritten first a old mid → IsOverwritten (first + a) b mid new → a + b ≤ n → IsOverwritten first n old new
+pub IsOverwritten-then : (first a b n : ℕ) (old mid new : Held) → IsOverwritten first a old mid →
+    IsOverwritten (first + a) b mid new → a + b ≤ n → IsOverwritten first n old new
 IsOverwritten-then first a b n old mid new front back within = record {
   before = λ q less. back.before q (omega arith) ∙ front.before q less;
   behind = λ q more. back.behind q (omega arith) ∙ front.behind q (omega arith);

@@ -2,21 +2,12 @@
 use Rattle.std.proofs.Common.{◌≡◌, ℕ, ◌+◌, ◌-◌, ◌*◌, ◌/◌, ◌%◌, ◌<◌, ◌≤◌, min, Bool, false, sym, ap, ◌∙◌, inl, inr, arith}
 use Rattle.std.specs.Prelude.{◌==◌}
 use Rattle.std.proofs.lemmas.Bool.{cases_lt, eqb-false}
-use Rattle.std.proofs.lemmas.Nat.{div-mul-add, mod-mul-add, le-div, mod_below}
-use Rattle.std.proofs.Math.Nat.{mul-add-div_right, mod-add-div, div-mul-le_self}
+use Rattle.std.proofs.lemmas.Nat.{div-mul-add, mod-mul-add, mod_below}
+use Rattle.std.proofs.Math.Nat.{mod-add-div}
 use Rattle.tree_model.specs.Tree.{page_count}
+use Rattle.tree_model.proofs.PageCountLaws.{count-behind, count-none}
 
--- whole pages before some bytes
-pub page_count-add : (size q b : ℕ) → 0 < size → page_count size (q * size + b) ≡ q + page_count size b
-page_count-add size q b some =
-    let same : q * size + b + (size - 1) ≡ q * size + (b + (size - 1)) = omega arith in
-    ap (λ (k : ℕ). k / size) same ∙ mul-add-div_right some q (b + (size - 1))
-
-pub page_count-none : (size : ℕ) → 0 < size → page_count size 0 ≡ 0
-page_count-none size some =
-    let same : 0 + (size - 1) ≡ 0 * size + (size - 1) = omega arith in
-    ap (λ (k : ℕ). k / size) same ∙ div-mul-add 0 size (size - 1) (omega arith)
-
+-- bytes that fit a page fill one
 pub page_count-one : (size b : ℕ) → 0 < b → b ≤ size → page_count size b ≡ 1
 page_count-one size b some less =
     let same : b + (size - 1) ≡ 1 * size + (b - 1) = omega arith in
@@ -28,46 +19,35 @@ page_count-part size b some less = elim (cases_lt 0 b) [
   | inl more ↦ page_count-one size b more (omega arith) ∙ (let one : 1 ≡ min 1 b = omega arith in one)
   | inr none ↦
       let zero_b : b ≡ 0 = omega arith in
-      ap (page_count size) zero_b ∙ page_count-none size some ∙ (let same : 0 ≡ min 1 b = omega arith in same)
+      ap (page_count size) zero_b ∙ count-none size some ∙ (let same : 0 ≡ min 1 b = omega arith in same)
 ]
 
 -- bytes from byte `skip` on
 pub page_count-from : (size skip n : ℕ) → 0 < size → page_count size (skip + n) ≡ skip / size + page_count size (skip % size + n)
 page_count-from size skip n some =
     let parts : skip + n ≡ skip / size * size + (skip % size + n) = omega (arith, mod-add-div skip size) in
-    ap (page_count size) parts ∙ page_count-add size (skip / size) (skip % size + n) some
+    ap (page_count size) parts ∙ count-behind size (skip / size) (skip % size + n) some
 
 -- whole pages, and a part of one
 pub page_count-parts : (size n : ℕ) → 0 < size → page_count size n ≡ n / size + min 1 (n % size)
 page_count-parts size n some =
     let parts : n ≡ n / size * size + n % size = omega (arith, mod-add-div n size) in
-    ap (page_count size) parts ∙ page_count-add size (n / size) (n % size) some
+    ap (page_count size) parts ∙ count-behind size (n / size) (n % size) some
     ∙ ap (λ (k : ℕ). n / size + k) (page_count-part size (n % size) some (mod_below n size some))
 
 -- the rest of a page that was begun, and what follows
-pub page_count-head : (size r n head : ℕ) → 0 < r → r < size → head ≡ min (size - r) n → page_count size (r + n) ≡ 1 + page_count size (n - head)
+pub page_count-head : (size r n head : ℕ) → 0 < r → r < size → head ≡ min (size - r) n →
+    page_count size (r + n) ≡ 1 + page_count size (n - head)
 page_count-head size r n head begun within e = elim (cases_lt (size - r) n) [
   | inl more ↦
       let parts : r + n ≡ 1 * size + (n - head) = omega arith in
-      ap (page_count size) parts ∙ page_count-add size 1 (n - head) (omega arith)
+      ap (page_count size) parts ∙ count-behind size 1 (n - head) (omega arith)
   | inr less ↦
       let one : page_count size (r + n) ≡ 1 = page_count-one size (r + n) (omega arith) (omega arith) in
       let nothing : n - head ≡ 0 = omega arith in
-      let none : page_count size (n - head) ≡ 0 = ap (page_count size) nothing ∙ page_count-none size (omega arith) in
+      let none : page_count size (n - head) ≡ 0 = ap (page_count size) nothing ∙ count-none size (omega arith) in
       omega (arith, one, none)
 ]
-
-pub page_count-mono : (size a b : ℕ) → 0 < size → a ≤ b → page_count size a ≤ page_count size b
-page_count-mono size a b some less =
-    let rows = div-mul-le_self (a + (size - 1)) size in
-    le-div ((a + (size - 1)) / size) (b + (size - 1)) size some (omega arith)
-
--- the pages have room for the bytes
-pub page_count-room : (size b : ℕ) → 0 < size → b ≤ page_count size b * size
-page_count-room size b some =
-    let parts = mod-add-div (b + (size - 1)) size in
-    let less = mod_below (b + (size - 1)) size some in
-    omega (arith, parts, less)
 
 -- as many bytes as a page has are one page
 pub one_page : (size bytes : ℕ) → 0 < size → bytes ≡ size → bytes / size ≡ 1

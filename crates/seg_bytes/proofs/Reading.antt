@@ -1,35 +1,40 @@
 -- A read over several segments, one after the other.
-use Rattle.std.proofs.Common.{◌≡◌, ℕ, zero, suc, ◌+◌, ◌-◌, ◌<◌, ◌≤◌, Bool, List, [], ◌∷◌, ◌++◌, length, take, drop, min, get_or, refl, sym, ap, ◌∙◌, subst, inl, inr, arith, append_assoc, length-drop, drop-cons, append-nil}
+use Rattle.std.proofs.Common.{◌≡◌, ℕ, zero, suc, ◌+◌, ◌-◌, ◌<◌, ◌≤◌, Bool, List, [], ◌∷◌, ◌++◌, length, take, drop}
+use Rattle.std.proofs.Common.{min, get_or, refl, sym, ap, ◌∙◌, subst, inl, inr, arith, append_assoc, length-drop}
+use Rattle.std.proofs.Common.{drop-cons, append-nil}
 use Rattle.std.specs.Prelude.{IsTrue}
 use Rattle.std.specs.List.{AllByRecursion}
 use Rattle.std.proofs.lemmas.Bool.{cases_lt}
-use Rattle.std.proofs.lemmas.List.{take_all, take-append-le, drop-append-le, drop_all, length-take-le, length-map}
+use Rattle.std.proofs.lemmas.List.{take_all, take-append-le, drop-append-le, drop_all, length-map}
 use Rattle.std.proofs.Math.ListN.{get_or-map}
 use Rattle.std.proofs.lemmas.Slice.{take-put_mid}
 use borrow.Rule.Slice.PartMut.{put_mid}
 use Rattle.std.proofs.Math.Seq.{take-append-add, drop-append-add}
 use Rattle.std.proofs.lemmas.List.Sums.{sum_by-cons}
-use Rattle.page_port.specs.Counts.{Meter}
+use Rattle.page_port.proofs.PageLists.{length-page_part}
+use Rattle.fault_count.specs.Counts.{Meter, Reads}
 use Rattle.tree_model.specs.declared.entry.Pair.{Pair}
 use Rattle.tree_model.specs.declared.entry.Placed.{Placed}
 use Rattle.tree_model.specs.Tree.{Pages, bytes_of}
 use Rattle.tree_model.specs.Range.{Covers, pairs_of, start_of}
 use Rattle.tree_model.specs.Content.{content, segment_bytes}
 use Rattle.seg_bytes.specs.Segments.{pages_touched, touched}
-use Rattle.seg_bytes.specs.Moved.{Reads}
-use Rattle.seg_bytes.proofs.Meters.{Reads-none, Reads-then, Reads-more}
+use Rattle.fault_count.proofs.CountLaws.{Reads-none, Reads-then, Reads-more}
 
 -- `done` bytes were read from the segments before the j-th, and the others stand from byte `skip` of the rest on
-pub record IsReading (told : Bool) (at : Pages) (size first len : ℕ) (pairs : List Pair) (j done skip : ℕ) (out : List ℕ) (old now : Meter) : Type 0 where
+pub record IsReading (told : Bool) (at : Pages) (size first len : ℕ) (pairs : List Pair) (j done skip : ℕ)
+    (out : List ℕ) (old now : Meter) : Type 0 where
   pub within : done ≤ len
   pub enough : 0 < len - done → skip + (len - done) ≤ bytes_of (drop j pairs)
-  pub bytes : IsTrue told → take done out ++ take (len - done) (drop skip (content at size (drop j pairs))) ≡ take len (drop first (content at size pairs))
-  pub faults : old.faults ≤ now.faults
+  pub bytes : IsTrue told → take done out ++ take (len - done) (drop skip (content at size (drop j pairs)))
+      ≡ take len (drop first (content at size pairs))
+  pub quiet : now.faults ≡ old.faults
   pub so_far : ℕ
   pub reads : Reads so_far old now
   pub all : so_far + touched size (drop j pairs) skip (len - done) ≡ touched size pairs first len
 
-pub IsReading-none : (told : Bool) (at : Pages) (size place len : ℕ) (placed : List Placed) (out : List ℕ) (m : Meter) → Covers placed place (place + len)
+pub IsReading-none : (told : Bool) (at : Pages) (size place len : ℕ) (placed : List Placed) (out : List ℕ)
+    (m : Meter) → Covers placed place (place + len)
     → IsReading told at size (place - start_of placed) len (pairs_of placed) 0 0 (place - start_of placed) out m m
 IsReading-none told at size place len placed out m covers =
     let all : len - 0 ≡ len = omega arith in
@@ -37,15 +42,18 @@ IsReading-none told at size place len placed out m covers =
       within = omega arith;
       enough = λ more. let from = covers.first (omega arith) in let to = covers.last (omega arith) in omega arith;
       bytes = λ told. ap (λ (k : ℕ). take k (drop (place - start_of placed) (content at size (pairs_of placed)))) all;
-      faults = omega arith;
+      quiet = refl;
       so_far = 0;
       reads = Reads-none 0 m;
-      all = let none : 0 + touched size (pairs_of placed) (place - start_of placed) (len - 0) ≡ touched size (pairs_of placed) (place - start_of placed) (len - 0) = omega arith in
+      all = let none : 0 + touched size (pairs_of placed) (place - start_of placed) (len - 0)
+          ≡ touched size (pairs_of placed) (place - start_of placed) (len - 0) = omega arith in
           none ∙ ap (touched size (pairs_of placed) (place - start_of placed)) all;
     }
 
 -- bytes of two lists joined, from a place on
-take-drop-joined : (n k : ℕ) (xs ys : List ℕ) → take n (drop k (xs ++ ys)) ≡ take (min n (length xs - k)) (drop k xs) ++ take (n - (length xs - k)) (drop (k - length xs) ys)
+take-drop-joined : (n k : ℕ) (xs ys : List ℕ) →
+    take n (drop k (xs ++ ys)) ≡ take (min n (length xs - k)) (drop k xs) ++ take (n - (length xs - k))
+    (drop (k - length xs) ys)
 take-drop-joined n k xs ys = elim (cases_lt k (length xs)) [
   | inl inside ↦
       let left : length (drop k xs) ≡ length xs - k = length-drop k xs in
@@ -56,7 +64,8 @@ take-drop-joined n k xs ys = elim (cases_lt k (length xs)) [
             let parts : n ≡ length (drop k xs) + (n - (length xs - k)) = omega arith in
             let least : min n (length xs - k) ≡ length xs - k = omega arith in
             ap (λ (m : ℕ). take m (drop k xs ++ ys)) parts ∙ take-append-add (drop k xs) ys (n - (length xs - k))
-            ∙ ap (λ (front : List ℕ). front ++ take (n - (length xs - k)) ys) (sym (take_all (min n (length xs - k)) (drop k xs) (omega arith)))
+            ∙ ap (λ (front : List ℕ). front ++ take (n - (length xs - k)) ys)
+            (sym (take_all (min n (length xs - k)) (drop k xs) (omega arith)))
             ∙ sym (ap (λ (m : ℕ). take (min n (length xs - k)) (drop k xs) ++ take (n - (length xs - k)) (drop m ys)) none)
         | inr less ↦
             let least : min n (length xs - k) ≡ n = omega arith in
@@ -76,14 +85,16 @@ take-drop-joined n k xs ys = elim (cases_lt k (length xs)) [
 ]
 
 -- one segment more
-pub IsReading-more : (told : Bool) (at : Pages) (size first len : ℕ) (pairs rest : List Pair) (p : Pair) (j done skip count : ℕ) (out part next : List ℕ) (old mid new : Meter)
-    → IsReading told at size first len pairs j done skip out old mid → drop j pairs ≡ p ∷ rest → drop (j + 1) pairs ≡ rest → count ≡ min (len - done) (p.bytes - skip)
+pub IsReading-more : (told : Bool) (at : Pages) (size first len : ℕ) (pairs rest : List Pair) (p : Pair)
+    (j done skip count : ℕ) (out part next : List ℕ) (old mid new : Meter)
+    → IsReading told at size first len pairs j done skip out old mid → drop j pairs ≡ p ∷ rest →
+    drop (j + 1) pairs ≡ rest → count ≡ min (len - done) (p.bytes - skip)
     → (IsTrue told → length (segment_bytes at size p) ≡ p.bytes) → (IsTrue told → part ≡ take count (drop skip (segment_bytes at size p)))
-    → take (done + count) next ≡ take done out ++ part → Reads (pages_touched size skip count) mid new → mid.faults ≤ new.faults
+    → take (done + count) next ≡ take done out ++ part → Reads (pages_touched size skip count) mid new → new.faults ≡ mid.faults
     → IsReading told at size first len pairs (j + 1) (done + count) (skip - p.bytes) next old new
-IsReading-more told at size first len pairs rest p j done skip count out part next old mid new so_far here behind e long read put more faults =
+IsReading-more told at size first len pairs rest p j done skip count out part next old mid new so_far here behind e
+    long read put more quiet =
     let within = so_far.within in
-    let kept = so_far.faults in
     let left : len - (done + count) ≡ len - done - (p.bytes - skip) = omega arith in
     record {
       within = omega arith;
@@ -98,25 +109,36 @@ IsReading-more told at size first len pairs rest p j done skip count out part ne
           ∙ ap (λ (bytes : List ℕ). take done out ++ bytes) (
           ap (λ (ps : List Pair). part ++ take (len - (done + count)) (drop (skip - p.bytes) (content at size ps))) behind
           ∙ ap (λ (front : List ℕ). front ++ take (len - (done + count)) (drop (skip - p.bytes) (content at size rest))) (read told)
-          ∙ ap (λ (k : ℕ). take k (drop skip (segment_bytes at size p)) ++ take (len - (done + count)) (drop (skip - p.bytes) (content at size rest))) e
-          ∙ ap (λ (k : ℕ). take (min (len - done) (p.bytes - skip)) (drop skip (segment_bytes at size p)) ++ take k (drop (skip - p.bytes) (content at size rest))) left
-          ∙ sym (split ∙ ap (λ (b : ℕ). take (min (len - done) (b - skip)) (drop skip (segment_bytes at size p)) ++ take (len - done - (b - skip)) (drop (skip - b) (content at size rest))) bytes)
+          ∙ ap (λ (k : ℕ). take k (drop skip (segment_bytes at size p)) ++ take (len - (done + count))
+          (drop (skip - p.bytes) (content at size rest))) e
+          ∙ ap (λ (k : ℕ). take (min (len - done) (p.bytes - skip)) (drop skip (segment_bytes at size p))
+          ++ take k (drop (skip - p.bytes) (content at size rest))) left
+          ∙ sym (split ∙ ap (λ (b : ℕ). take (min (len - done) (b - skip)) (drop skip (segment_bytes at size p))
+          ++ take (len - done - (b - skip)) (drop (skip - b) (content at size rest))) bytes)
           ∙ sym (ap (λ (ps : List Pair). take (len - done) (drop skip (content at size ps))) here))
           ∙ so_far.bytes told;
-      faults = omega arith;
+      quiet = quiet ∙ so_far.quiet;
       so_far = so_far.so_far + pages_touched size skip count;
       reads = Reads-then _ _ _ _ _ _ so_far.reads more (omega arith);
       all =
-          let sum : touched size (drop j pairs) skip (len - done) ≡ pages_touched size skip (min (len - done) (p.bytes - skip)) + touched size rest (skip - p.bytes) (len - done - (p.bytes - skip)) = ap (λ (ps : List Pair). touched size ps skip (len - done)) here in
-          let same : pages_touched size skip count ≡ pages_touched size skip (min (len - done) (p.bytes - skip)) = ap (pages_touched size skip) e in
-          let others : touched size (drop (j + 1) pairs) (skip - p.bytes) (len - (done + count)) ≡ touched size rest (skip - p.bytes) (len - done - (p.bytes - skip)) = ap (λ (ps : List Pair). touched size ps (skip - p.bytes) (len - (done + count))) behind ∙ ap (touched size rest (skip - p.bytes)) left in
+          let sum : touched size (drop j pairs) skip (len - done)
+          ≡ pages_touched size skip (min (len - done) (p.bytes - skip)) + touched size rest (skip - p.bytes)
+          (len - done - (p.bytes - skip)) = ap (λ (ps : List Pair). touched size ps skip (len - done)) here in
+          let same : pages_touched size skip count ≡ pages_touched size skip (min (len - done) (p.bytes - skip)) =
+          ap (pages_touched size skip) e in
+          let others : touched size (drop (j + 1) pairs) (skip - p.bytes) (len - (done + count))
+          ≡ touched size rest (skip - p.bytes) (len - done - (p.bytes - skip)) =
+          ap (λ (ps : List Pair). touched size ps (skip - p.bytes) (len - (done + count))) behind
+          ∙ ap (touched size rest (skip - p.bytes)) left in
           let total = so_far.all in
           omega (arith, sum, same, others, total);
     }
 
 -- all segments were read
-pub IsReading-all : (told : Bool) (at : Pages) (size first len : ℕ) (pairs : List Pair) (j done skip : ℕ) (out : List ℕ) (old now : Meter) → IsReading told at size first len pairs j done skip out old now
-    → length pairs ≤ j → length out ≡ len → (IsTrue told → out ≡ take len (drop first (content at size pairs))) × Reads (touched size pairs first len) old now
+pub IsReading-all : (told : Bool) (at : Pages) (size first len : ℕ) (pairs : List Pair) (j done skip : ℕ)
+    (out : List ℕ) (old now : Meter) → IsReading told at size first len pairs j done skip out old now
+    → length pairs ≤ j → length out ≡ len → (IsTrue told → out ≡ take len (drop first (content at size pairs)))
+    × Reads (touched size pairs first len) old now
 IsReading-all told at size first len pairs j done skip out old now r end long =
     let none : drop j pairs ≡ [] = drop_all j pairs end in
     let within = r.within in
@@ -132,21 +154,27 @@ IsReading-all told at size first len pairs j done skip out old now r end long =
     )
 
 -- the segment that a read stopped in
-pub IsReading-stopped : (told : Bool) (at : Pages) (size first len : ℕ) (pairs rest : List Pair) (p : Pair) (j done skip count : ℕ) (out : List ℕ) (old mid new : Meter)
+pub IsReading-stopped : (told : Bool) (at : Pages) (size first len : ℕ) (pairs rest : List Pair) (p : Pair)
+    (j done skip count : ℕ) (out : List ℕ) (old mid new : Meter)
     → IsReading told at size first len pairs j done skip out old mid → drop j pairs ≡ p ∷ rest → count ≡ min (len - done) (p.bytes - skip)
     → Reads (pages_touched size skip count) mid new → Reads (touched size pairs first len) old new
 IsReading-stopped told at size first len pairs rest p j done skip count out old mid new so_far here e more =
-    let sum : touched size (drop j pairs) skip (len - done) ≡ pages_touched size skip (min (len - done) (p.bytes - skip)) + touched size rest (skip - p.bytes) (len - done - (p.bytes - skip)) = ap (λ (ps : List Pair). touched size ps skip (len - done)) here in
-    let same : pages_touched size skip count ≡ pages_touched size skip (min (len - done) (p.bytes - skip)) = ap (pages_touched size skip) e in
+    let sum : touched size (drop j pairs) skip (len - done)
+    ≡ pages_touched size skip (min (len - done) (p.bytes - skip)) + touched size rest (skip - p.bytes)
+    (len - done - (p.bytes - skip)) = ap (λ (ps : List Pair). touched size ps skip (len - done)) here in
+    let same : pages_touched size skip count ≡ pages_touched size skip (min (len - done) (p.bytes - skip)) =
+    ap (pages_touched size skip) e in
     let total = so_far.all in
-    Reads-then so_far.so_far (pages_touched size skip count) (touched size pairs first len) old mid new so_far.reads more (omega (arith, sum, same, total))
+    Reads-then so_far.so_far (pages_touched size skip count)
+    (touched size pairs first len) old mid new so_far.reads more (omega (arith, sum, same, total))
 
 -- what a segment past the end is read as
 abbrev pub no_segment : Placed
 no_segment = record { start = 0; pair = record { bytes = 0; page = 0 } }
 
 -- the j-th segment is the first of the rest
-next_pair : (placed : List Placed) (j : ℕ) → j < length placed → drop j (pairs_of placed) ≡ (get_or placed j no_segment).pair ∷ drop (j + 1) (pairs_of placed)
+next_pair : (placed : List Placed) (j : ℕ) → j < length placed →
+    drop j (pairs_of placed) ≡ (get_or placed j no_segment).pair ∷ drop (j + 1) (pairs_of placed)
 next_pair placed j less =
     let long : length (pairs_of placed) ≡ length placed = length-map placed (λ (s : Placed). s.pair) in
     let next : suc j ≡ j + 1 = omega arith in
@@ -154,59 +182,70 @@ next_pair placed j less =
     ∙ ap (λ (p : Pair). p ∷ drop (suc j) (pairs_of placed)) (get_or-map (λ (s : Placed). s.pair) placed j no_segment)
     ∙ ap (λ (k : ℕ). (get_or placed j no_segment).pair ∷ drop k (pairs_of placed)) next
 
--- the place in the caller's bytes
-part_long : (done count : ℕ) (out : List ℕ) → done + count ≤ length out → length (take (done + count - done) (drop done out)) ≡ count
-part_long done count out fits =
-    let same : done + count - done ≡ count = omega arith in
-    ap (λ (k : ℕ). length (take k (drop done out))) same ∙ length-take-le count (drop done out) (omega (arith, length-drop done out))
-
 -- the call that reads a part of one segment into its place
 pub record IsTurn (told : Bool) (at : Pages) (size page done skip count : ℕ) (p : Pair) (out part : List ℕ) (mid new : Meter) : Type 0 where
   pub same : page ≡ size
   pub count_is : count ≡ min (length out - done) (p.bytes - skip)
   pub reads : Reads (pages_touched page skip (length (take (done + count - done) (drop done out)))) mid new
 
-turn_fits : (told : Bool) (at : Pages) (size page done skip count : ℕ) (p : Pair) (out part : List ℕ) (mid new : Meter) → IsTurn told at size page done skip count p out part mid new → done ≤ length out → done + count ≤ length out
+turn_fits : (told : Bool) (at : Pages) (size page done skip count : ℕ) (p : Pair) (out part : List ℕ)
+    (mid new : Meter) → IsTurn told at size page done skip count p out part mid new → done ≤ length out →
+    done + count ≤ length out
 turn_fits told at size page done skip count p out part mid new t within = let e = t.count_is in omega arith
 
-turn_reads : (told : Bool) (at : Pages) (size page done skip count : ℕ) (p : Pair) (out part : List ℕ) (mid new : Meter) → IsTurn told at size page done skip count p out part mid new → done ≤ length out → Reads (pages_touched size skip count) mid new
+turn_reads : (told : Bool) (at : Pages) (size page done skip count : ℕ) (p : Pair) (out part : List ℕ)
+    (mid new : Meter) → IsTurn told at size page done skip count p out part mid new → done ≤ length out →
+    Reads (pages_touched size skip count) mid new
 turn_reads told at size page done skip count p out part mid new t within =
     subst (λ (k : ℕ). Reads (pages_touched k skip count) mid new) t.same
-    (subst (λ (k : ℕ). Reads (pages_touched page skip k) mid new) (part_long done count out (turn_fits told at size page done skip count p out part mid new t within)) t.reads)
+    (subst (λ (k : ℕ). Reads (pages_touched page skip k) mid new)
+    (length-page_part done count out (turn_fits told at size page done skip count p out part mid new t within))
+    t.reads)
 
-pub IsReading-turn : (told : Bool) (at : Pages) (size page first len : ℕ) (placed : List Placed) (j done skip skip2 count : ℕ) (out part : List ℕ) (old mid new : Meter)
+pub IsReading-turn : (told : Bool) (at : Pages) (size page first len : ℕ) (placed : List Placed)
+    (j done skip skip2 count : ℕ) (out part : List ℕ) (old mid new : Meter)
     → IsReading told at size first len (pairs_of placed) j done skip out old mid → j < length placed → length out ≡ len
     → IsTurn told at size page done skip count (get_or placed j no_segment).pair out part mid new
     → skip2 ≡ skip - (get_or placed j no_segment).pair.bytes
     → (IsTrue told → length (segment_bytes at size (get_or placed j no_segment).pair) ≡ (get_or placed j no_segment).pair.bytes)
-    → (IsTrue told → part ≡ take (length (take (done + count - done) (drop done out))) (drop skip (segment_bytes at page (get_or placed j no_segment).pair)))
-    → length part ≡ length (take (done + count - done) (drop done out)) → mid.faults ≤ new.faults
+    → (IsTrue told → part ≡ take (length (take (done + count - done) (drop done out)))
+    (drop skip (segment_bytes at page (get_or placed j no_segment).pair)))
+    → length part ≡ length (take (done + count - done) (drop done out)) → new.faults ≡ mid.faults
     → IsReading told at size first len (pairs_of placed) (j + 1) (done + count) skip2 (put_mid done (done + count - done) out part) old new
-IsReading-turn told at size page first len placed j done skip skip2 count out part old mid new so_far less long t e full read whole faults =
+IsReading-turn told at size page first len placed j done skip skip2 count out part old mid new so_far less long t e full read whole quiet =
     let p : Pair = (get_or placed j no_segment).pair in
     let within = so_far.within in
     let fits = turn_fits told at size page done skip count (get_or placed j no_segment).pair out part mid new t (omega arith) in
-    let count_long = part_long done count out fits in
+    let count_long = length-page_part done count out fits in
     let count_is = t.count_is in
-    subst (λ (k : ℕ). IsReading told at size first len (pairs_of placed) (j + 1) (done + count) k (put_mid done (done + count - done) out part) old new) (sym e)
-    (IsReading-more told at size first len (pairs_of placed) (drop (j + 1) (pairs_of placed)) (get_or placed j no_segment).pair j done skip count out part (put_mid done (done + count - done) out part) old mid new
+    subst (λ (k : ℕ). IsReading told at size first len (pairs_of placed) (j + 1)
+    (done + count) k (put_mid done (done + count - done) out part) old new) (sym e)
+    (IsReading-more told at size first len (pairs_of placed) (drop (j + 1) (pairs_of placed))
+    (get_or placed j no_segment).pair j done skip count out part (put_mid done (done + count - done) out part)
+    old mid new
     so_far (next_pair placed j less) refl (omega arith) full
     (λ is_told. read is_told ∙ ap (λ (k : ℕ). take k (drop skip (segment_bytes at page (get_or placed j no_segment).pair))) count_long
     ∙ ap (λ (k : ℕ). take count (drop skip (segment_bytes at k (get_or placed j no_segment).pair))) t.same)
     (take-put_mid done (done + count - done) out part (done + count) (omega arith) (omega arith))
-    (turn_reads told at size page done skip count (get_or placed j no_segment).pair out part mid new t (omega arith)) faults)
+    (turn_reads told at size page done skip count (get_or placed j no_segment).pair out part mid new t (omega arith)) quiet)
 
-pub IsReading-stop : (told : Bool) (at : Pages) (size page first len : ℕ) (placed : List Placed) (j done skip count : ℕ) (out part : List ℕ) (old mid new : Meter)
+pub IsReading-stop : (told : Bool) (at : Pages) (size page first len : ℕ) (placed : List Placed)
+    (j done skip count : ℕ) (out part : List ℕ) (old mid new : Meter)
     → IsReading told at size first len (pairs_of placed) j done skip out old mid → j < length placed → length out ≡ len
-    → IsTurn told at size page done skip count (get_or placed j no_segment).pair out part mid new → Reads (touched size (pairs_of placed) first len) old new
+    → IsTurn told at size page done skip count (get_or placed j no_segment).pair out part mid new →
+    Reads (touched size (pairs_of placed) first len) old new
 IsReading-stop told at size page first len placed j done skip count out part old mid new so_far less long t =
     let within = so_far.within in
     let count_is = t.count_is in
-    IsReading-stopped told at size first len (pairs_of placed) (drop (j + 1) (pairs_of placed)) (get_or placed j no_segment).pair j done skip count out old mid new
-    so_far (next_pair placed j less) (omega arith) (turn_reads told at size page done skip count (get_or placed j no_segment).pair out part mid new t (omega arith))
+    IsReading-stopped told at size first len (pairs_of placed) (drop (j + 1) (pairs_of placed))
+    (get_or placed j no_segment).pair j done skip count out old mid new
+    so_far (next_pair placed j less) (omega arith)
+    (turn_reads told at size page done skip count (get_or placed j no_segment).pair out part mid new t
+    (omega arith))
 
 -- what holds of each segment holds of the j-th
-pub each_segment : (P : Placed → Type 0) (placed : List Placed) (j : ℕ) → AllByRecursion P placed → j < length placed → P (get_or placed j no_segment)
+pub each_segment : (P : Placed → Type 0) (placed : List Placed) (j : ℕ) → AllByRecursion P placed →
+    j < length placed → P (get_or placed j no_segment)
 each_segment P [] j all less = absurd (omega arith)
 each_segment P (s ∷ ss) zero all less = all.0
 each_segment P (s ∷ ss) (suc j) all less = each_segment P ss j all.1 (omega arith)

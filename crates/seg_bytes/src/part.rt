@@ -1,14 +1,15 @@
 //! A part of one page, read by way of a page of scratch.
 
-ghost use Rattle.std.specs.Prelude.{◌≡◌, ◌+◌, ◌<◌, ◌≤◌, length, take, drop, min, IsTrue, IsErr, OnOk};
-ghost use Rattle.page_port.specs.Counts.{HasCause};
+ghost use Rattle.std.specs.Prelude.{◌≡◌, ◌+◌, ◌<◌, ◌≤◌, length, take, drop, min, IsTrue, IsErr};
+ghost use Rattle.std.specs.Prelude.{OnOk};
+ghost use Rattle.fault_count.specs.Counts.{HasCause, Reads};
 ghost use Rattle.span_store.specs.Held.{AllSized, bytes_on, has};
-ghost use Rattle.seg_bytes.specs.Moved.{Reads};
 
 use page_port::{DeviceFault, Port};
 use span_store::Holdings;
 
-/// Reads bytes of a page from byte `from` of it on. Where there are none to read, the device isn't called.
+/// Reads bytes of a page from byte `from` of it on. Where there are none to read, the device isn't
+/// called.
 pub fn read_part<P: Port>(
     held: &Holdings<P::S>,
     port: &mut P,

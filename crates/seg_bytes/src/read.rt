@@ -1,20 +1,21 @@
 //! The bytes of segments, from a position on.
 
-ghost use Rattle.std.specs.Prelude.{◌≡◌, ℕ, ◌+◌, ◌-◌, ◌^◌, ◌<◌, ◌≤◌, length, take, drop, min, IsTrue, IsErr, OnOk};
-ghost use Rattle.page_port.specs.Counts.{HasCause};
+ghost use Rattle.std.specs.Prelude.{◌≡◌, ◌+◌, ◌-◌, ◌<◌, ◌≤◌, length, take, drop, min};
+ghost use Rattle.std.specs.Prelude.{IsTrue, IsErr, OnOk};
+ghost use Rattle.fault_count.specs.Counts.{HasCause, Reads};
 ghost use Rattle.tree_model.specs.Content.{content, segment_bytes};
 ghost use Rattle.tree_model.specs.Range.{Covers, pairs_of, start_of};
-ghost use Rattle.span_store.specs.Held.{AllSized, bytes_on, has};
-ghost use Rattle.seg_bytes.specs.Segments.{HoldsBytes, HoldsSegments, pages_touched, touched};
-ghost use Rattle.seg_bytes.specs.Moved.{Reads};
+ghost use Rattle.span_store.specs.Held.{AllSized, bytes_on};
+ghost use Rattle.seg_bytes.specs.Segments.{HasSegment, HoldsSegments, pages_touched, touched};
 
 use crate::run::read_from;
 use page_port::{DeviceFault, Port};
 use span_store::Holdings;
 use tree_model::{Pair, Placed};
 
-/// Reads the bytes of an object from position `at` on, as many as `out` has. `placed` are segments of the
-/// object, one after the other, that have them. It takes no memory: `scratch` is room for a page.
+/// Reads the bytes of an object from position `at` on, as many as `out` has. `placed` are segments
+/// of the object, one after the other, that have them. It takes no memory: `scratch` is room for a
+/// page.
 ///
 /// # Errors
 /// The device failed: the port's count of faults rose. Then `out` may have anything.
@@ -32,8 +33,10 @@ pub fn read_bytes<P: Port>(
     requires held { HoldsSegments held.now (P.meter port.old).page placed.now }
     requires sized { AllSized P.S.tells (P.meter port.old).page held.now }
     ensures bytes { OnOk result (IsTrue P.S.tells → out.new ≡ take (length out.old)
-        (drop (at - start_of placed.now) (content (bytes_on held.now) (P.meter port.old).page (pairs_of placed.now)))) }
-    ensures reads { Reads (touched (P.meter port.old).page (pairs_of placed.now) (at - start_of placed.now)
+        (drop (at - start_of placed.now)
+        (content (bytes_on held.now) (P.meter port.old).page (pairs_of placed.now)))) }
+    ensures reads { Reads (touched (P.meter port.old).page (pairs_of placed.now)
+        (at - start_of placed.now)
         (length out.old)) (P.meter port.old) (P.meter port.new) }
     ensures cause { HasCause (P.meter port.old).faults (P.meter port.new).faults (IsErr result) }
 {
@@ -69,7 +72,8 @@ fn bytes_here(bytes: u64, skip: u64, left: usize) -> usize
     (left as u64).min(bytes.saturating_sub(skip)) as usize
 }
 
-/// Reads bytes of a segment from byte `skip` of it on. Where there are none to read, the device isn't called.
+/// Reads bytes of a segment from byte `skip` of it on. Where there are none to read, the device
+/// isn't called.
 fn read_here<P: Port>(
     held: &Holdings<P::S>,
     port: &mut P,
@@ -81,8 +85,7 @@ fn read_here<P: Port>(
     requires scratch { length scratch.old ≡ (P.meter port.old).page }
     requires some { 0 < (P.meter port.old).page }
     requires inside { 0 < length out.old → skip + length out.old ≤ pair.bytes }
-    requires held { HoldsBytes held.now (P.meter port.old).page pair.page pair.bytes }
-    requires numbers { (q : ℕ) → IsTrue (has held.now q) → q < 2 ^ 32 - 1 }
+    requires held { HasSegment held.now (P.meter port.old).page pair }
     requires sized { AllSized P.S.tells (P.meter port.old).page held.now }
     ensures bytes { OnOk result (IsTrue P.S.tells → out.new ≡ take (length out.old)
         (drop skip (segment_bytes (bytes_on held.now) (P.meter port.old).page pair))) }

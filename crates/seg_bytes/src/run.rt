@@ -1,12 +1,12 @@
 //! Bytes of a run of pages.
 
-ghost use Rattle.std.specs.Prelude.{◌≡◌, ◌+◌, ◌/◌, ◌%◌, ◌<◌, ◌≤◌, length, take, drop, IsTrue, IsErr, OnOk};
-ghost use Rattle.page_port.specs.Counts.{HasCause};
+ghost use Rattle.std.specs.Prelude.{◌≡◌, ◌+◌, ◌/◌, ◌%◌, ◌<◌, ◌≤◌, length, take, drop, IsTrue};
+ghost use Rattle.std.specs.Prelude.{IsErr, OnOk};
+ghost use Rattle.fault_count.specs.Counts.{HasCause, Reads};
 ghost use Rattle.tree_model.specs.Content.{run_bytes};
 ghost use Rattle.tree_model.specs.Tree.{page_count};
-ghost use Rattle.span_store.specs.Held.{AllSized, HasRun, bytes_on};
+ghost use Rattle.span_store.specs.Held.{AllSized, HoldsRun, bytes_on};
 ghost use Rattle.seg_bytes.specs.Segments.{HasBytes, pages_touched};
-ghost use Rattle.seg_bytes.specs.Moved.{Reads};
 
 use crate::part::read_part;
 use page_port::{DeviceFault, Port};
@@ -26,7 +26,8 @@ pub fn read_from<P: Port>(
     requires held { HasBytes held.now (P.meter port.old).page first (skip + length out.old) }
     requires sized { AllSized P.S.tells (P.meter port.old).page held.now }
     ensures bytes { OnOk result (IsTrue P.S.tells → out.new ≡ take (length out.old) (drop skip
-        (run_bytes (bytes_on held.now) first (page_count (P.meter port.old).page (skip + length out.old))))) }
+        (run_bytes (bytes_on held.now) first
+        (page_count (P.meter port.old).page (skip + length out.old))))) }
     ensures reads { Reads (pages_touched (P.meter port.old).page skip (length out.old))
         (P.meter port.old) (P.meter port.new) }
     ensures cause { HasCause (P.meter port.old).faults (P.meter port.new).faults (IsErr result) }
@@ -56,7 +57,8 @@ fn read_front<P: Port>(
     requires held { HasBytes held.now (P.meter port.old).page first (length out.old) }
     requires sized { AllSized P.S.tells (P.meter port.old).page held.now }
     ensures bytes { OnOk result (IsTrue P.S.tells → out.new ≡ take (length out.old)
-        (run_bytes (bytes_on held.now) first (page_count (P.meter port.old).page (length out.old)))) }
+        (run_bytes (bytes_on held.now) first
+        (page_count (P.meter port.old).page (length out.old)))) }
     ensures reads { Reads (page_count (P.meter port.old).page (length out.old))
         (P.meter port.old) (P.meter port.new) }
     ensures cause { HasCause (P.meter port.old).faults (P.meter port.new).faults (IsErr result) }
@@ -76,11 +78,12 @@ fn read_whole<P: Port>(
     out: &mut [u8],
 ) -> Result<(), DeviceFault>
     requires even { length out.old % (P.meter port.old).page ≡ 0 }
-    requires held { HasRun held.now first (length out.old / (P.meter port.old).page) }
+    requires held { HoldsRun held.now first (length out.old / (P.meter port.old).page) }
     requires sized { AllSized P.S.tells (P.meter port.old).page held.now }
     ensures bytes { OnOk result (IsTrue P.S.tells → out.new ≡ run_bytes (bytes_on held.now) first
         (length out.old / (P.meter port.old).page)) }
-    ensures reads { Reads (length out.old / (P.meter port.old).page) (P.meter port.old) (P.meter port.new) }
+    ensures reads { Reads (length out.old / (P.meter port.old).page) (P.meter port.old)
+        (P.meter port.new) }
     ensures cause { HasCause (P.meter port.old).faults (P.meter port.new).faults (IsErr result) }
 {
     if out.is_empty() {

@@ -1,5 +1,5 @@
-//! Segments over a device in memory: what is read and written, compared with plain bytes, and by how many
-//! calls of the device.
+//! Segments over a device in memory: what is read and written, compared with plain bytes, and by
+//! how many calls of the device.
 
 ghost use Rattle.std.specs.Prelude.{◌≡◌, ◌+◌, ◌<◌, ◌≤◌, IfOk, true, length};
 ghost use Rattle.span_store.specs.Held.{AllSized};
@@ -16,7 +16,8 @@ fn byte(i: usize) -> u8 {
     (i % 251) as u8
 }
 
-/// A device of eight pages of 256 bytes, all of them held, and a port whose call of this number fails.
+/// A device of eight pages of 256 bytes, all of them held, and a port whose call of this number
+/// fails.
 fn device(
     rt: &impl Abort,
     alloc: Global,
@@ -46,7 +47,8 @@ fn device(
     Ok((port, held))
 }
 
-/// Reads from an object of three segments: 300 bytes from page 5 on, 512 from page 1 on, and 100 on page 7.
+/// Reads from an object of three segments: 300 bytes from page 5 on, 512 from page 1 on, and 100 on
+/// page 7.
 fn read(
     rt: &impl Abort,
     held: &Holdings<MemSpan>,
@@ -101,7 +103,8 @@ fn place(i: usize) -> usize
     }
 }
 
-/// How many calls of the device a read makes: before the first one that is made to fail and isn't made.
+/// How many calls of the device a read makes: before the first one that is made to fail and isn't
+/// made.
 fn reads_of(rt: &impl Abort, alloc: Global, at: usize, count: usize) -> Result<u64, AllocError> {
     assert!(rt; count <= 912);
     for call in 1..10 {

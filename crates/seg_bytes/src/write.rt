@@ -1,22 +1,23 @@
 //! Bytes written from a page on.
 
-ghost use Rattle.std.specs.Prelude.{◌≡◌, ◌+◌, ◌-◌, ◌*◌, ◌/◌, ◌%◌, ◌<◌, ◌≤◌, ◌++◌, length, min, replicate, IsTrue, IsErr, OnOk};
-ghost use Rattle.page_port.specs.Counts.{HasCause};
-ghost use Rattle.tree_model.specs.Content.{run_bytes, segment_bytes};
+ghost use Rattle.std.specs.Prelude.{◌≡◌, ◌+◌, ◌-◌, ◌/◌, ◌%◌, ◌<◌, ◌≤◌, ◌++◌, length, min};
+ghost use Rattle.std.specs.Prelude.{replicate, IsTrue, IsErr, OnOk};
+ghost use Rattle.fault_count.specs.Counts.{HasCause, Writes};
+ghost use Rattle.tree_model.specs.Content.{run_bytes};
 ghost use Rattle.tree_model.specs.Tree.{page_count};
-ghost use Rattle.span_store.specs.Held.{AllSized, HasRun, bytes_on, has};
-ghost use Rattle.span_store.specs.Calls.{IsOverwritten};
+ghost use Rattle.span_store.specs.Held.{AllSized, HoldsRun, bytes_on, has};
 ghost use Rattle.seg_bytes.specs.Segments.{HoldsBytes};
-ghost use Rattle.seg_bytes.specs.Moved.{Writes};
+ghost use Rattle.seg_bytes.specs.Written.{ChangesAlone, StandFrom};
 
 use page_port::{DeviceFault, Port};
 use span_store::Holdings;
 
-/// Writes bytes from page `first` on, and fills the last page with zeros. It takes no memory: `scratch` is
-/// room for a page.
+/// Writes bytes to the pages that begin at `first`; what is left of the last one becomes zeros. It
+/// takes no memory: `scratch` is room for a page.
 ///
 /// # Errors
-/// The device failed: the port's count of faults rose. Then the pages of these bytes may hold anything.
+/// The device failed: the port's count of faults rose. Then the pages of these bytes may hold
+/// anything.
 pub fn write_bytes<P: Port>(
     held: &mut Holdings<P::S>,
     port: &mut P,
@@ -28,14 +29,10 @@ pub fn write_bytes<P: Port>(
     requires some { 0 < (P.meter port.old).page }
     requires held { HoldsBytes held.old (P.meter port.old).page first (length bytes.now) }
     requires sized { AllSized P.S.tells (P.meter port.old).page held.old }
-    ensures bytes { OnOk result (IsTrue P.S.tells → run_bytes (bytes_on held.new) first
-        (page_count (P.meter port.old).page (length bytes.now)) ≡ bytes.now
-        ++ replicate (page_count (P.meter port.old).page (length bytes.now) * (P.meter port.old).page
-        - length bytes.now) 0) }
-    ensures content { OnOk result (IsTrue P.S.tells → segment_bytes (bytes_on held.new)
-        (P.meter port.old).page (record { bytes = length bytes.now; page = first }) ≡ bytes.now) }
-    ensures others { IsOverwritten first (page_count (P.meter port.old).page (length bytes.now)) held.old held.new }
-    ensures sized { AllSized P.S.tells (P.meter port.old).page held.new }
+    ensures bytes { OnOk result (IsTrue P.S.tells
+        → StandFrom (bytes_on held.new) (P.meter port.old).page first bytes.now) }
+    ensures others { ChangesAlone P.S.tells (P.meter port.old).page first
+        (page_count (P.meter port.old).page (length bytes.now)) held.old held.new }
     ensures writes { Writes (page_count (P.meter port.old).page (length bytes.now))
         (P.meter port.old) (P.meter port.new) }
     ensures cause { HasCause (P.meter port.old).faults (P.meter port.new).faults (IsErr result) }
@@ -57,13 +54,14 @@ fn write_whole<P: Port>(
     bytes: &[u8],
 ) -> Result<(), DeviceFault>
     requires even { length bytes.now % (P.meter port.old).page ≡ 0 }
-    requires held { HasRun held.old first (length bytes.now / (P.meter port.old).page) }
+    requires held { HoldsRun held.old first (length bytes.now / (P.meter port.old).page) }
     requires sized { AllSized P.S.tells (P.meter port.old).page held.old }
     ensures bytes { OnOk result (IsTrue P.S.tells → run_bytes (bytes_on held.new) first
         (length bytes.now / (P.meter port.old).page) ≡ bytes.now) }
-    ensures others { IsOverwritten first (length bytes.now / (P.meter port.old).page) held.old held.new }
-    ensures sized { AllSized P.S.tells (P.meter port.old).page held.new }
-    ensures writes { Writes (length bytes.now / (P.meter port.old).page) (P.meter port.old) (P.meter port.new) }
+    ensures others { ChangesAlone P.S.tells (P.meter port.old).page first
+        (length bytes.now / (P.meter port.old).page) held.old held.new }
+    ensures writes { Writes (length bytes.now / (P.meter port.old).page) (P.meter port.old)
+        (P.meter port.new) }
     ensures cause { HasCause (P.meter port.old).faults (P.meter port.new).faults (IsErr result) }
 {
     if bytes.is_empty() {
@@ -86,8 +84,8 @@ fn write_last<P: Port>(
     requires sized { AllSized P.S.tells (P.meter port.old).page held.old }
     ensures bytes { OnOk result (IsTrue P.S.tells → 0 < length bytes.now → bytes_on held.new page
         ≡ bytes.now ++ replicate ((P.meter port.old).page - length bytes.now) 0) }
-    ensures others { IsOverwritten page (min 1 (length bytes.now)) held.old held.new }
-    ensures sized { AllSized P.S.tells (P.meter port.old).page held.new }
+    ensures others { ChangesAlone P.S.tells (P.meter port.old).page page
+        (min 1 (length bytes.now)) held.old held.new }
     ensures writes { Writes (min 1 (length bytes.now)) (P.meter port.old) (P.meter port.new) }
     ensures cause { HasCause (P.meter port.old).faults (P.meter port.new).faults (IsErr result) }
 {

@@ -1,6 +1,7 @@
 -- What is noted of a command, and that the acts of an object lead to its working version.
-use Rattle.std.proofs.Common.{◌≡◌, ℕ, ◌+◌, List, [], ◌∷◌, ◌++◌, length, Bool, true, false, refl, ap, sym, ◌∙◌, subst, append-nil, Option, Some, None, inl, inr}
-use Rattle.std.specs.Prelude.{Result, Ok, Err, IfSome, IfOk, OnErr, IsTrue, if◌then◌else◌, nat_le, unwrap_or}
+use Rattle.std.proofs.Common.{◌≡◌, ℕ, ◌+◌, List, [], ◌∷◌, ◌++◌, Bool, true, false, refl, ap, sym, ◌∙◌, subst}
+use Rattle.std.proofs.Common.{append-nil, Option, Some, None, inl, inr}
+use Rattle.std.specs.Prelude.{Result, Ok, Err, IfSome, IfOk, OnErr, IsTrue, if◌then◌else◌, unwrap_or}
 use Rattle.std.proofs.lemmas.Bool.{cases_Bool}
 use Rattle.eos_ops.specs.declared.act.Act.{Act}
 use Rattle.eos_ops.specs.declared.command.Command.{Command}
@@ -11,12 +12,12 @@ use Rattle.eos_ops.specs.declared.end.End.{End}
 use Rattle.eos_ops.specs.declared.outcome.Outcome.{Outcome}
 use Rattle.eos_ops.specs.declared.outcome.Outcome.TheVariants.{Done, Exists, Missing, Range}
 use Rattle.eos_ops.specs.declared.plain.Plain.{Plain}
-use Rattle.eos_ops.specs.declared.plain.Plain.TheVariants.{Absent, Present}
 use Rattle.eos_ops.specs.declared.reply.Reply.{Reply}
 use Rattle.eos_ops.specs.declared.reply.Reply.TheVariants as reply
 use Rattle.eos_ops.specs.Edits.{outcome_in, edited}
 use Rattle.eos_ops.specs.Ends.{last_stamp_of}
 use Rattle.eos_ops.specs.Objects.{object_of, with_bytes, reply_in, after_in, reply_of, length_in, read_in}
+use Rattle.eos_ops.proofs.EditLemmas.{edited-refused}
 use Rattle.history.specs.Event.{answered}
 use Rattle.history.proofs.Acts.{RightAt-push, replayed-push}
 use Rattle.history.proofs.EventLaws.{deed-object}
@@ -24,12 +25,13 @@ use Rattle.shadow_txn.specs.declared.fails.TxnFail.{TxnFail}
 use Rattle.shadow_txn.specs.declared.fails.TxnFail.TheVariants as fail
 use Rattle.shadow_txn.specs.declared.held.Held.{Held}
 use Rattle.shadow_txn.specs.declared.plain_object.PlainObject.{PlainObject}
-use Rattle.shadow_txn.specs.Acts.{edit_command, act_of, is_own, noted, Lead, IsLed, OrMemory}
+use Rattle.shadow_txn.specs.Acts.{edit_command, act_of, is_objects_own, noted, Lead, IsLed, OrMemory}
 use Rattle.shadow_txn.specs.Held.{done_to}
 use Rattle.shadow_txn.specs.Objects.{working_of, edited_object}
 use Rattle.shadow_txn.specs.Replies.{length_reply, bytes_reply}
 
-act_of-answered : (n : ℕ) (c : Command) (r : Reply) → act_of (answered n c r) ≡ (if is_own r then record { command = c; reply = r } ∷ [] else [])
+act_of-answered : (n : ℕ) (c : Command) (r : Reply) →
+    act_of (answered n c r) ≡ (if is_objects_own r then record { command = c; reply = r } ∷ [] else [])
 act_of-answered n c reply.Ok = refl
 act_of-answered n c (reply.Length k) = refl
 act_of-answered n c (reply.Bytes x) = refl
@@ -51,27 +53,30 @@ act_of-answered n c reply.Again = refl
 
 -- what is noted of a command on an object that has its bytes
 noted-answer : (n : ℕ) (c : Command) (r : Reply) → object_of c ≡ Some n → with_bytes c ≡ c
-    → noted true c r ≡ (if is_own r then record { command = c; reply = r } ∷ [] else [])
+    → noted true c r ≡ (if is_objects_own r then record { command = c; reply = r } ∷ [] else [])
 noted-answer n c r on bytes = ap act_of (deed-object c r n on) ∙ ap (λ k. act_of (answered n k r)) bytes ∙ act_of-answered n c r
 
-pub noted-own : (n : ℕ) (c : Command) (r : Reply) → object_of c ≡ Some n → with_bytes c ≡ c → is_own r ≡ true
+pub noted-own : (n : ℕ) (c : Command) (r : Reply) → object_of c ≡ Some n → with_bytes c ≡ c → is_objects_own r ≡ true
     → noted true c r ≡ record { command = c; reply = r } ∷ []
 noted-own n c r on bytes own = noted-answer n c r on bytes ∙ ap (λ (b : Bool). if b then record { command = c; reply = r } ∷ [] else []) own
 
-pub noted-none : (n : ℕ) (c : Command) (r : Reply) → object_of c ≡ Some n → with_bytes c ≡ c → is_own r ≡ false → noted true c r ≡ []
-noted-none n c r on bytes other = noted-answer n c r on bytes ∙ ap (λ (b : Bool). if b then record { command = c; reply = r } ∷ [] else []) other
+pub noted-none : (n : ℕ) (c : Command) (r : Reply) → object_of c ≡ Some n → with_bytes c ≡ c →
+    is_objects_own r ≡ false → noted true c r ≡ []
+noted-none n c r on bytes other = noted-answer n c r on bytes
+    ∙ ap (λ (b : Bool). if b then record { command = c; reply = r } ∷ [] else []) other
 
-lead-push : (x w : Plain) (acts : List Act) (a : Act) → Lead true x acts w → reply_in a.command w ≡ a.reply → Lead true x (acts ++ a ∷ []) (after_in a.command w)
+lead-push : (x w : Plain) (acts : List Act) (a : Act) → Lead true x acts w → reply_in a.command w ≡ a.reply →
+    Lead true x (acts ++ a ∷ []) (after_in a.command w)
 lead-push x w acts a lead right =
     (RightAt-push acts a x lead.0 (ap (reply_in a.command) lead.1 ∙ right), replayed-push acts a x ∙ ap (after_in a.command) lead.1)
 
 -- Acts lead on to the version after a command, if what was noted of it is right.
 lead-noted : (tells : Bool) (x w y : Plain) (acts : List Act) (n : ℕ) (c : Command) (r : Reply) → object_of c ≡ Some n → with_bytes c ≡ c
-    → (is_own r ≡ true → (reply_in c w ≡ r) × (after_in c w ≡ y)) → (is_own r ≡ false → y ≡ w)
+    → (is_objects_own r ≡ true → (reply_in c w ≡ r) × (after_in c w ≡ y)) → (is_objects_own r ≡ false → y ≡ w)
     → Lead tells x acts w → Lead tells x (acts ++ noted tells c r) y
 lead-noted false x w y acts n c r on bytes own other lead = append-nil acts ∙ lead
 lead-noted true x w y acts n c r on bytes own other lead =
-    elim (cases_Bool (is_own r)) [
+    elim (cases_Bool (is_objects_own r)) [
       | inl its ↦
           subst (λ more. Lead true x (acts ++ more) y) (sym (noted-own n c r on bytes its))
           (subst (Lead true x (acts ++ record { command = c; reply = r } ∷ [])) (own its).1
@@ -81,9 +86,11 @@ lead-noted true x w y acts n c r on bytes own other lead =
           (subst (λ more. Lead true x more y) (sym (append-nil acts)) (subst (Lead true x acts) (sym (other not_its)) lead))
     ]
 
-led-noted : {H : Type 0} (tells : Bool) (told : H → Option (List End)) (last : H → ℕ) (x y : PlainObject H) (acts : List Act) (n : ℕ) (c : Command) (r : Reply)
+led-noted : {H : Type 0} (tells : Bool) (told : H → Option (List End)) (last : H → ℕ) (x y : PlainObject H)
+    (acts : List Act) (n : ℕ) (c : Command) (r : Reply)
     → object_of c ≡ Some n → with_bytes c ≡ c → y.committed ≡ x.committed → y.annals ≡ x.annals
-    → (is_own r ≡ true → (reply_in c (working_of x) ≡ r) × (after_in c (working_of x) ≡ working_of y)) → (is_own r ≡ false → working_of y ≡ working_of x)
+    → (is_objects_own r ≡ true → (reply_in c (working_of x) ≡ r) × (after_in c (working_of x) ≡ working_of y)) →
+    (is_objects_own r ≡ false → working_of y ≡ working_of x)
     → IsLed tells told last x acts → IsLed tells told last y (acts ++ noted tells c r)
 led-noted tells told last x y acts n c r on bytes committed annals own other led = record {
   lead =
@@ -142,36 +149,18 @@ with_bytes-edit n (Insert at p) = refl
 with_bytes-edit n (Delete at len) = refl
 with_bytes-edit n (Replace at p) = refl
 
-own-outcome : (outcome : Outcome) → is_own (reply_of outcome) ≡ true
+own-outcome : (outcome : Outcome) → is_objects_own (reply_of outcome) ≡ true
 own-outcome Done = refl
 own-outcome Exists = refl
 own-outcome Missing = refl
 own-outcome (Range n) = refl
 
-if_same : {A : Type 0} (b : Bool) (n : ℕ) (x y : A) → ((if b then Done else Range n) ≡ Done → ⊥) → (if b then y else x) ≡ x
-if_same true n x y refused = absurd (refused refl)
-if_same false n x y refused = refl
-
--- an edit that isn't done leaves the object
-edited-refused : (e : Edit) (w : Plain) → (outcome_in e w ≡ Done → ⊥) → edited e w ≡ w
-edited-refused (Create t) Absent refused = absurd (refused refl)
-edited-refused Destroy Absent refused = refl
-edited-refused (Append p) Absent refused = refl
-edited-refused (Insert at p) Absent refused = refl
-edited-refused (Delete at n) Absent refused = refl
-edited-refused (Replace at p) Absent refused = refl
-edited-refused (Create t) (Present x) refused = refl
-edited-refused Destroy (Present x) refused = absurd (refused refl)
-edited-refused (Append p) (Present x) refused = absurd (refused refl)
-edited-refused (Insert at p) (Present x) refused = ap Present (if_same (nat_le at (length x)) (length x) x _ refused)
-edited-refused (Delete at n) (Present x) refused = ap Present (if_same (nat_le (at + n) (length x)) (length x) x _ refused)
-edited-refused (Replace at p) (Present x) refused = ap Present (if_same (nat_le (at + length p) (length x)) (length x) x _ refused)
-
-no_memory : (r : Reply) → is_own r ≡ true → r ≡ reply.Memory → ⊥
-no_memory r own e = let wrong : is_own reply.Memory ≡ true = subst (λ q. is_own q ≡ true) e own in absurd cc
+no_memory : (r : Reply) → is_objects_own r ≡ true → r ≡ reply.Memory → ⊥
+no_memory r own e = let wrong : is_objects_own reply.Memory ≡ true = subst (λ q. is_objects_own q ≡ true) e own in absurd cc
 
 -- a length that was answered
-pub led-length : {H : Type 0} (tells : Bool) (told : H → Option (List End)) (last : H → ℕ) (x : PlainObject H) (acts : List Act) (n : ℕ) (answer : Result ℕ TxnFail)
+pub led-length : {H : Type 0} (tells : Bool) (told : H → Option (List End)) (last : H → ℕ) (x : PlainObject H)
+    (acts : List Act) (n : ℕ) (answer : Result ℕ TxnFail)
     → ((answer ≡ Err fail.Memory → ⊥) → length_reply answer ≡ length_in (working_of x))
     → IsLed tells told last x acts → IsLed tells told last x (acts ++ noted tells (command.Length n) (length_reply answer))
 led-length tells told last x acts n answer right led =
@@ -180,16 +169,21 @@ led-length tells told last x acts n answer right led =
     (λ other. refl) led
 
 -- bytes that were answered
-pub led-read : {H : Type 0} (tells : Bool) (told : H → Option (List End)) (last : H → ℕ) (x : PlainObject H) (acts : List Act) (n at len : ℕ) (answer : Result (List ℕ) TxnFail)
+pub led-read : {H : Type 0} (tells : Bool) (told : H → Option (List End)) (last : H → ℕ) (x : PlainObject H)
+    (acts : List Act) (n at len : ℕ) (answer : Result (List ℕ) TxnFail)
     → ((answer ≡ Err fail.Memory → ⊥) → bytes_reply answer ≡ read_in at len (working_of x))
     → IsLed tells told last x acts → IsLed tells told last x (acts ++ noted tells (command.Read n at len) (bytes_reply answer))
 led-read tells told last x acts n at len answer right led =
     led-noted tells told last x x acts n (command.Read n at len) (bytes_reply answer) refl refl refl refl
-    (λ own. (reply_in-read n at len (working_of x) ∙ sym (right (λ e. no_memory _ own (ap bytes_reply e))), after_in-read n at len (working_of x)))
+    (λ own. (
+      reply_in-read n at len (working_of x) ∙ sym (right (λ e. no_memory _ own (ap bytes_reply e))),
+      after_in-read n at len (working_of x),
+    ))
     (λ other. refl) led
 
 -- an edit that was done
-pub led-done : {H : Type 0} (tells : Bool) (told : H → Option (List End)) (last : H → ℕ) (x : PlainObject H) (acts : List Act) (n : ℕ) (e : Edit)
+pub led-done : {H : Type 0} (tells : Bool) (told : H → Option (List End)) (last : H → ℕ) (x : PlainObject H)
+    (acts : List Act) (n : ℕ) (e : Edit)
     → outcome_in e (working_of x) ≡ Done
     → IsLed tells told last x acts → IsLed tells told last (edited_object e x) (acts ++ noted tells (edit_command n e) reply.Ok)
 led-done tells told last x acts n e done led =
@@ -198,7 +192,8 @@ led-done tells told last x acts n e done led =
     (λ other. absurd cc) led
 
 -- an edit that was refused
-pub led-refused : {H : Type 0} (tells : Bool) (told : H → Option (List End)) (last : H → ℕ) (x : PlainObject H) (acts : List Act) (n : ℕ) (e : Edit) (outcome : Outcome)
+pub led-refused : {H : Type 0} (tells : Bool) (told : H → Option (List End)) (last : H → ℕ) (x : PlainObject H)
+    (acts : List Act) (n : ℕ) (e : Edit) (outcome : Outcome)
     → outcome ≡ outcome_in e (working_of x) → (outcome ≡ Done → ⊥)
     → IsLed tells told last x acts → IsLed tells told last x (acts ++ noted tells (edit_command n e) (reply_of outcome))
 led-refused tells told last x acts n e outcome is refused led =
@@ -218,9 +213,11 @@ pub record Changed {H : Type 0} (tells : Bool) (told : H → Option (List End)) 
   pub annals : object.annals ≡ h.object.annals
   pub led : IsLed tells told last h.object h.acts → IsLed tells told last object (h.acts ++ more)
 
-changed_not : {H : Type 0} (tells : Bool) (told : H → Option (List End)) (last : H → ℕ) (h new : Held (PlainObject H)) (e : Edit) (outcome : Outcome)
+changed_not : {H : Type 0} (tells : Bool) (told : H → Option (List End)) (last : H → ℕ)
+    (h new : Held (PlainObject H)) (e : Edit) (outcome : Outcome)
     → outcome ≡ outcome_in e (working_of h.object) → (outcome ≡ Done → ⊥)
-    → ((outcome ≡ Done → ⊥) → new ≡ done_to h h.object (noted tells (edit_command h.number e) (reply_of outcome))) → Changed tells told last h new
+    → ((outcome ≡ Done → ⊥) → new ≡ done_to h h.object (noted tells (edit_command h.number e) (reply_of outcome))) →
+    Changed tells told last h new
 changed_not tells told last h new e outcome is refused same = record {
   object = h.object;
   more = noted tells (edit_command h.number e) (reply_of outcome);
@@ -230,7 +227,8 @@ changed_not tells told last h new e outcome is refused same = record {
   led = led-refused tells told last h.object h.acts h.number e outcome is refused;
 }
 
-pub changed : {H E : Type 0} (tells : Bool) (told : H → Option (List End)) (last : H → ℕ) (h new : Held (PlainObject H)) (e : Edit) (result : Result Outcome E)
+pub changed : {H E : Type 0} (tells : Bool) (told : H → Option (List End)) (last : H → ℕ)
+    (h new : Held (PlainObject H)) (e : Edit) (result : Result Outcome E)
     → IfOk result (λ outcome. outcome ≡ outcome_in e (working_of h.object))
     → (result ≡ Ok Done → new ≡ done_to h (edited_object e h.object) (noted tells (edit_command h.number e) reply.Ok))
     → IfOk result (λ outcome. (outcome ≡ Done → ⊥) → new ≡ done_to h h.object (noted tells (edit_command h.number e) (reply_of outcome)))
@@ -251,9 +249,12 @@ changed tells told last h new e (Ok Done) outcome done refused err = record {
   annals = refl;
   led = led-done tells told last h.object h.acts h.number e (sym outcome);
 }
-changed tells told last h new e (Ok Exists) outcome done refused err = changed_not tells told last h new e Exists outcome (λ wrong. absurd cc) refused
-changed tells told last h new e (Ok Missing) outcome done refused err = changed_not tells told last h new e Missing outcome (λ wrong. absurd cc) refused
-changed tells told last h new e (Ok (Range n)) outcome done refused err = changed_not tells told last h new e (Range n) outcome (λ wrong. absurd cc) refused
+changed tells told last h new e (Ok Exists) outcome done refused err =
+    changed_not tells told last h new e Exists outcome (λ wrong. absurd cc) refused
+changed tells told last h new e (Ok Missing) outcome done refused err =
+    changed_not tells told last h new e Missing outcome (λ wrong. absurd cc) refused
+changed tells told last h new e (Ok (Range n)) outcome done refused err =
+    changed_not tells told last h new e (Range n) outcome (λ wrong. absurd cc) refused
 
 -- an answer that lacks memory only where acts are kept
 pub or_memory : (tells : Bool) (IsMemory P : Type 0) → (IsMemory → IsTrue tells) → ((IsMemory → ⊥) → P) → OrMemory tells IsMemory P

@@ -9,8 +9,10 @@ use Rattle.shadow_txn.specs.declared.plain_object.PlainObject.{PlainObject}
 use Rattle.shadow_txn.specs.Taking.{IsReturned, Leaves}
 
 -- an object that was put back as it was, since its stamp was the last, or for want of memory
-pub leaves_returned : {H : Type 0} (told : H → Option (List End)) (last : H → ℕ) (fail : HoldFail) (o at : ℕ) (old new : Shelving (PlainObject H))
-    → IsReturned told last o at old new → at ≤ 2 ^ 62 → (fail ≡ Worn) ↔ (at ≡ 2 ^ 62) → (fail ≡ Worn) ⊎ (fail ≡ Memory) → Leaves told last fail o old new
+pub leaves_returned : {H : Type 0} (told : H → Option (List End)) (last : H → ℕ) (fail : HoldFail) (o at : ℕ)
+    (old new : Shelving (PlainObject H))
+    → IsReturned told last o at old new → at ≤ 2 ^ 62 → (fail ≡ Worn) ↔ (at ≡ 2 ^ 62) → (fail ≡ Worn)
+    ⊎ (fail ≡ Memory) → Leaves told last fail o old new
 leaves_returned told last NoObject o at old new back most worn why = ⊎_elim (λ e. absurd cc) (λ e. absurd cc) why
 leaves_returned told last Full o at old new back most worn why = ⊎_elim (λ e. absurd cc) (λ e. absurd cc) why
 leaves_returned told last Busy o at old new back most worn why = ⊎_elim (λ e. absurd cc) (λ e. absurd cc) why

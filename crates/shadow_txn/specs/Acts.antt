@@ -4,7 +4,8 @@ use Rattle.eos_ops.specs.declared.act.Act.{Act}
 use Rattle.eos_ops.specs.declared.command.Command.{Command}
 use Rattle.eos_ops.specs.declared.command.Command.TheVariants as command
 use Rattle.eos_ops.specs.declared.edit.Edit.{Edit}
-use Rattle.eos_ops.specs.declared.edit.Edit.TheVariants.{Create, Destroy, Append, Insert, Delete, Replace}
+use Rattle.eos_ops.specs.declared.edit.Edit.TheVariants.{Create, Destroy, Append, Insert, Delete}
+use Rattle.eos_ops.specs.declared.edit.Edit.TheVariants.{Replace}
 use Rattle.eos_ops.specs.declared.end.End.{End}
 use Rattle.eos_ops.specs.declared.payload.Payload.TheVariants.{Given}
 use Rattle.eos_ops.specs.declared.plain.Plain.{Plain}
@@ -36,16 +37,17 @@ act_of (Closes committed) = []
 act_of Nothing = []
 
 -- the reply is one that the object itself gives
-abbrev pub is_own : Reply → Bool
-is_own reply.Ok = true
-is_own (reply.Length n) = true
-is_own (reply.Bytes x) = true
-is_own (reply.Range n) = true
-is_own reply.Exists = true
-is_own reply.Missing = true
-is_own r = false
+abbrev pub is_objects_own : Reply → Bool
+is_objects_own reply.Ok = true
+is_objects_own (reply.Length n) = true
+is_objects_own (reply.Bytes x) = true
+is_objects_own (reply.Range n) = true
+is_objects_own reply.Exists = true
+is_objects_own reply.Missing = true
+is_objects_own r = false
 
--- What is noted of a command and its reply, where the annals keep acts: the act, if the reply is the object's own.
+-- What is noted of a command and its reply, where the annals keep acts: the act, if the reply is
+-- the object's own.
 abbrev pub noted : Bool → Command → Reply → List Act
 noted false c r = []
 noted true c r = act_of (deed c r)
@@ -60,12 +62,15 @@ abbrev pub HasNoActs : {T : Type 0} → Bool → ℕ → List (Held T) → Type 
 HasNoActs false o held = Unit {0}
 HasNoActs true o held = acts_in o held ≡ []
 
--- Where acts are kept, they lead from the one version to the other, and each has the reply that it gets there.
+-- Where acts are kept, they lead from the one version to the other, and each has the reply that
+-- it gets there.
 abbrev pub Lead : Bool → Plain → List Act → Plain → Type 0
 Lead false committed acts working = acts ≡ []
 Lead true committed acts working = RightAt committed acts × (replayed committed acts ≡ working)
 
--- A held object with the acts on it: they lead to its working version, and its last stamp is that of its last end.
-pub record IsLed {H : Type 0} (tells : Bool) (told : H → Option (List End)) (last : H → ℕ) (x : PlainObject H) (acts : List Act) : Type 0 where
+-- A held object with the acts on it: they lead to its working version, and its last stamp is that
+-- of its last end.
+pub record IsLed {H : Type 0} (tells : Bool) (told : H → Option (List End)) (last : H → ℕ)
+    (x : PlainObject H) (acts : List Act) : Type 0 where
   pub lead : Lead tells x.committed acts (working_of x)
   pub ages : IfSome (told x.annals) (λ ends. last x.annals ≡ last_stamp_of ends)

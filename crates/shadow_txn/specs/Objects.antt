@@ -13,7 +13,11 @@ working_of x = unwrap_or x.working x.committed
 
 -- an edit changes the working version alone
 abbrev pub edited_object : {H : Type 0} → Edit → PlainObject H → PlainObject H
-edited_object e x = record { committed = x.committed; working = Some (edited e (working_of x)); annals = x.annals }
+edited_object e x = record {
+  committed = x.committed;
+  working = Some (edited e (working_of x));
+  annals = x.annals;
+}
 
 -- where the ends are told, they lead from these contents to the committed version
 abbrev pub IsLegalObject : {H : Type 0} → (H → Option (List End)) → Plain → PlainObject H → Type 0

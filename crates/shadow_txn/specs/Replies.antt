@@ -6,15 +6,16 @@ use Rattle.eos_ops.specs.declared.plain.Plain.TheVariants.{Absent}
 use Rattle.eos_ops.specs.declared.reply.Reply.{Reply}
 use Rattle.eos_ops.specs.declared.reply.Reply.TheVariants as reply
 use Rattle.shadow_txn.specs.declared.fails.TxnFail.{TxnFail}
-use Rattle.shadow_txn.specs.declared.fails.TxnFail.TheVariants.{Exists, Missing, Range, Fault, NoSpace, Memory}
+use Rattle.shadow_txn.specs.declared.fails.TxnFail.TheVariants.{Exists, Missing, Range, Fault}
+use Rattle.shadow_txn.specs.declared.fails.TxnFail.TheVariants.{NoSpace, Memory}
 use Rattle.shadow_txn.specs.declared.held.Held.{Held}
 use Rattle.shadow_txn.specs.declared.plain_object.PlainObject.{PlainObject}
-use Rattle.shadow_txn.specs.Held.{object_in}
+use Rattle.shadow_txn.specs.Held.{held_object}
 use Rattle.shadow_txn.specs.Objects.{working_of}
 
 -- the working version of a held object
 abbrev pub working_in : {H : Type 0} → ℕ → List (Held (PlainObject H)) → Plain
-working_in o held = option_map_or working_of (object_in o held) Absent
+working_in o held = option_map_or working_of (held_object o held) Absent
 
 abbrev pub fail_reply : TxnFail → Reply
 fail_reply Exists = reply.Exists

@@ -1,6 +1,6 @@
 //! Room for one end more in the annals of an object.
 
-ghost use Rattle.std.specs.Prelude.{◌≡◌, ◌<◌, ◌≤◌, ◌↔◌, ◌^◌, ◌⊎◌, Err, IfSome, OnOk, IfErr};
+ghost use Rattle.std.specs.Prelude.{◌≡◌, ◌<◌, ◌≤◌, ◌↔◌, ◌^◌, ◌⊎◌, Err, true, IfSome, OnOk, IfErr};
 ghost use Rattle.eos_ops.specs.Ends.{last_stamp_of};
 
 use crate::HoldFail;
@@ -11,7 +11,8 @@ pub(crate) fn make_room<H: Annals>(annals: &mut H) -> Result<(), HoldFail>
     ensures worn { (result ≡ Err HoldFail.Worn) ↔ (H.last annals.old ≡ 2 ^ 62) }
     ensures within { H.last annals.old ≤ 2 ^ 62 }
     ensures ok { OnOk result ((1 ≤ H.spare annals.new) × (H.last annals.new < 2 ^ 62)) }
-    ensures memory { IfErr result (λ e. (e ≡ HoldFail.Worn) ⊎ (e ≡ HoldFail.Memory)) }
+    ensures err { IfErr result (λ e. (e ≡ HoldFail.Worn) ⊎ (e ≡ HoldFail.Memory)) }
+    ensures memory { result ≡ Err HoldFail.Memory → H.tells ≡ true }
     ensures told { H.told annals.new ≡ H.told annals.old }
     ensures last { H.last annals.new ≡ H.last annals.old }
     ensures ages { IfSome (H.told annals.new) (λ ends. H.last annals.new ≡ last_stamp_of ends) }

@@ -1,20 +1,23 @@
 //! The end of a transaction.
 
-ghost use Rattle.std.specs.Prelude.{◌≡◌, ◌+◌, ◌<◌, ◌≤◌, ◌^◌, max, [], true, false, Some, None, All, vec_capacity, slice_index_or};
+ghost use Rattle.std.specs.Prelude.{◌≡◌, ◌+◌, ◌<◌, ◌≤◌, ◌^◌, max, [], true, false, Some, None, All};
+ghost use Rattle.std.specs.Prelude.{vec_capacity, slice_index_or};
 ghost use Rattle.std.specs.Option.{option_map};
 ghost use Rattle.object_locks.specs.Shelving.{Terms};
 ghost use Rattle.shadow_txn.specs.Acts.{IsLed};
-ghost use Rattle.shadow_txn.specs.Ending.{HasEnded, IsEnding, HaveEnds, HasGot, CanEnd, MayEnd, GoesHome, end_with, made_ends, with_puts};
-ghost use Rattle.shadow_txn.specs.Held.{object_in, AreDistinct};
+ghost use Rattle.shadow_txn.specs.Ending.{HasEnded, IsEnding, HaveEnds, HasGot, CanEnd, MayEnd};
+ghost use Rattle.shadow_txn.specs.Ending.{GoesHome, end_with, made_ends, with_puts};
+ghost use Rattle.shadow_txn.specs.Held.{held_object, AreDistinct};
 ghost use Rattle.shadow_txn.specs.Objects.{IsLegalObject};
 ghost use Rattle.shadow_txn.specs.Serving.{Serves, Agree, AreLegal};
-ghost use Rattle.shadow_txn.specs.Transaction.{ended, end_stamp, greatest_last};
+ghost use Rattle.shadow_txn.specs.Transaction.{with_end, end_stamp, greatest_last};
 
 use crate::{Held, PlainObject, Txn};
 use eos_ops::{Acts, Annals, End, Plain};
 use object_locks::Shelf;
 
-/// What the end of a transaction writes into the annals of each of its objects, beside the acts on it.
+/// What the end of a transaction writes into the annals of each of its objects, beside the acts on
+/// it.
 #[derive(Clone, Copy)]
 struct Closing {
     stamp: u64,
@@ -24,15 +27,15 @@ struct Closing {
 }
 
 impl<H: Annals> Txn<H> {
-    /// Ends the transaction, makes the working versions the committed ones, and puts all objects back. It gives the
-    /// stamp of the end, and takes no memory.
+    /// Ends the transaction, makes the working versions the committed ones, and puts all objects
+    /// back. It gives the stamp of the end, and takes no memory.
     pub fn commit<X: Shelf<PlainObject<H>>>(&mut self, shelf: &mut X) -> u64
         requires open { self.old.is_open ≡ true }
         requires serves { Serves H.told H.last self.old (X.shelving shelf.old) }
         requires terms { (t : Terms) × X.under shelf.old t × Agree H.tells H.told t self.old.held }
         ensures stamp { result ≡ end_stamp (λ x. H.last x.annals) self.old }
         ensures within { result ≤ 2 ^ 62 }
-        ensures txn { self.new ≡ ended self.old result }
+        ensures txn { self.new ≡ with_end self.old result }
         ensures shelf { IsEnding
             (HasEnded H.told H.last result self.old.session self.old.number true) self.old.held
             (X.shelving shelf.old) (X.shelving shelf.new) }
@@ -53,15 +56,15 @@ impl<H: Annals> Txn<H> {
         self.close(shelf, true)
     }
 
-    /// Ends the transaction, forgets the working versions, and puts all objects back. It gives the stamp of the end,
-    /// and takes no memory.
+    /// Ends the transaction, forgets the working versions, and puts all objects back. It gives the
+    /// stamp of the end, and takes no memory.
     pub fn abort<X: Shelf<PlainObject<H>>>(&mut self, shelf: &mut X) -> u64
         requires open { self.old.is_open ≡ true }
         requires serves { Serves H.told H.last self.old (X.shelving shelf.old) }
         requires terms { (t : Terms) × X.under shelf.old t × Agree H.tells H.told t self.old.held }
         ensures stamp { result ≡ end_stamp (λ x. H.last x.annals) self.old }
         ensures within { result ≤ 2 ^ 62 }
-        ensures txn { self.new ≡ ended self.old result }
+        ensures txn { self.new ≡ with_end self.old result }
         ensures shelf { IsEnding
             (HasEnded H.told H.last result self.old.session self.old.number false) self.old.held
             (X.shelving shelf.old) (X.shelving shelf.new) }
@@ -87,7 +90,7 @@ impl<H: Annals> Txn<H> {
         requires terms { (t : Terms) × X.under shelf.old t × Agree H.tells H.told t self.old.held }
         ensures stamp { result ≡ end_stamp (λ x. H.last x.annals) self.old }
         ensures within { result ≤ 2 ^ 62 }
-        ensures txn { self.new ≡ ended self.old result }
+        ensures txn { self.new ≡ with_end self.old result }
         ensures shelf { IsEnding
             (HasEnded H.told H.last result self.old.session self.old.number committed) self.old.held
             (X.shelving shelf.old) (X.shelving shelf.new) }

@@ -5,7 +5,7 @@
 ghost use Rattle.std.specs.Prelude.{◌≡◌, ◌+◌, ◌<◌, ◌≤◌, ◌++◌, length, take, drop, IfOk, OnErr};
 ghost use Rattle.eos_ops.specs.declared.outcome.Outcome.TheVariants.{Done};
 ghost use Rattle.eos_ops.specs.Edits.{outcome_in, edited};
-ghost use Rattle.shadow_txn.specs.Memory.{IsFilled};
+ghost use Rattle.eos_ops.specs.Memory.{HasAByte};
 
 use eos_ops::{Bytes, Edit, Plain};
 use std::alloc::{AllocError, Global};
@@ -14,7 +14,7 @@ use std::alloc::{AllocError, Global};
 pub(crate) fn edited_copy(alloc: Global, edit: &Edit, object: &Plain) -> Result<Plain, AllocError>
     requires { outcome_in edit.now object.now ≡ Done }
     ensures copy { IfOk result (λ copy. copy ≡ edited edit.now object.now) }
-    ensures memory { OnErr result (IsFilled (edited edit.now object.now)) }
+    ensures memory { OnErr result (HasAByte (edited edit.now object.now)) }
 {
     let Plain::Present(bytes) = object else {
         return Ok(Plain::Present(Bytes::new(alloc)));

@@ -1,7 +1,7 @@
 //! An object in the hands of a transaction.
 
 ghost use Rattle.std.specs.Prelude.{◌≡◌, ◌≤◌, None, IfSome, IfNone, is_some, length};
-ghost use Rattle.shadow_txn.specs.Held.{object_in, IsPlace};
+ghost use Rattle.shadow_txn.specs.Held.{held_object, IsFirstAt};
 
 use eos_ops::Acts;
 
@@ -19,9 +19,9 @@ pub struct Held<T> {
 /// Where an object stands among those that are held.
 pub(crate) fn place_of<T>(held: &[Held<T>], o: u64) -> Option<usize>
     requires { length held.now ≤ 16 }
-    ensures found { IfSome result (λ i. IsPlace held.now o i) }
-    ensures none { IfNone result (object_in o held.now ≡ None) }
-    ensures variant { is_some result ≡ is_some (object_in o held.now) }
+    ensures found { IfSome result (λ i. IsFirstAt held.now o i) }
+    ensures none { IfNone result (held_object o held.now ≡ None) }
+    ensures variant { is_some result ≡ is_some (held_object o held.now) }
 {
     for (i, one) in held.iter().enumerate() {
         if u64::from(one.number) == o {

@@ -1,13 +1,15 @@
 //! Taking an object, and letting it go without an end.
 
-ghost use Rattle.std.specs.Prelude.{◌≡◌, ◌≢◌, ◌<◌, ◌≤◌, ◌↔◌, ◌⊎◌, true, Err, Some, None, [], IfSome, IfOk, IfErr, OnOk, OnErr, IsOk, IsSome, IsSomeAnd, length, slice_get, slice_index_or};
+ghost use Rattle.std.specs.Prelude.{◌≡◌, ◌≢◌, ◌<◌, ◌≤◌, ◌↔◌, ◌⊎◌, true, Err, Some, None, []};
+ghost use Rattle.std.specs.Prelude.{IfSome, IfOk, IfErr, OnOk, OnErr, IsOk, IsSome, IsSomeAnd};
+ghost use Rattle.std.specs.Prelude.{length, slice_get, slice_index_or};
 ghost use Rattle.eos_ops.specs.declared.plain.Plain.{Plain};
 ghost use Rattle.object_locks.specs.Shelving.{Terms, IsPut};
 ghost use Rattle.shadow_txn.specs.Acts.{HasNoActs};
-ghost use Rattle.shadow_txn.specs.Held.{object_in, without};
+ghost use Rattle.shadow_txn.specs.Held.{held_object, without_held};
 ghost use Rattle.shadow_txn.specs.Serving.{Serves, Agree};
 ghost use Rattle.shadow_txn.specs.Objects.{IsLegalObject};
-ghost use Rattle.shadow_txn.specs.Taking.{IsTaken, Leaves, Holds, CanAsk};
+ghost use Rattle.shadow_txn.specs.Taking.{HasTaken, Leaves, Holds, CanAsk};
 ghost use Rattle.shadow_txn.specs.Transaction.{holding};
 
 use crate::annals_room::make_room;
@@ -22,22 +24,25 @@ impl<H: Annals> Txn<H> {
         requires open { self.old.is_open ≡ true }
         requires serves { Serves H.told H.last self.old (X.shelving shelf.old) }
         requires terms { (t : Terms) × X.under shelf.old t }
-        ensures held { IsSome (object_in o self.old.held) → IsOk result × (self.new ≡ self.old)
+        ensures held { IsSome (held_object o self.old.held) → IsOk result × (self.new ≡ self.old)
             × (X.shelving shelf.new ≡ X.shelving shelf.old) }
         ensures ok { OnOk result
-            (object_in o self.old.held ≡ None
+            (held_object o self.old.held ≡ None
             → Holds H.told H.last H.spare o self.old self.new (X.shelving shelf.old)
             (X.shelving shelf.new)) }
 
         // The refusals, in this order. After each of them nothing is held that wasn't.
         ensures no_object { (result ≡ Err HoldFail.NoObject)
-            ↔ ((object_in o self.old.held ≡ None) × (self.old.objects ≤ o)) }
+            ↔ ((held_object o self.old.held ≡ None) × (self.old.objects ≤ o)) }
         ensures full { (result ≡ Err HoldFail.Full)
-            ↔ ((object_in o self.old.held ≡ None) × (o < self.old.objects)
+            ↔ ((held_object o self.old.held ≡ None) × (o < self.old.objects)
             × (length self.old.held ≡ MAX_HELD)) }
         ensures busy { IfSome (X.shelving shelf.old).home
             (λ xs. (result ≡ Err HoldFail.Busy)
             ↔ (CanAsk o self.old × (slice_get xs o ≡ Some None))) }
+
+        // Only annals that tell their ends take memory.
+        ensures memory { result ≡ Err HoldFail.Memory → H.tells ≡ true }
         ensures err { OnErr result (self.new ≡ self.old) }
         ensures left { IfErr result
             (λ fail. Leaves H.told H.last fail o (X.shelving shelf.old) (X.shelving shelf.new)) }
@@ -79,16 +84,17 @@ impl<H: Annals> Txn<H> {
         Ok(o as u32)
     }
 
-    /// Puts object `o` back as it was taken, without an end: nothing was done to it. It takes no memory.
+    /// Puts object `o` back as it was taken, without an end: nothing was done to it. It takes no
+    /// memory.
     pub fn unhold<X: Shelf<PlainObject<H>>>(&mut self, shelf: &mut X, o: u64)
-        requires held { IsSomeAnd (object_in o self.old.held) (λ x. x.working ≡ None) }
+        requires held { IsSomeAnd (held_object o self.old.held) (λ x. x.working ≡ None) }
 
         // An object with acts goes home with their end.
         requires acts { HasNoActs H.tells o self.old.held }
         requires serves { Serves H.told H.last self.old (X.shelving shelf.old) }
         requires terms { (t : Terms) × X.under shelf.old t × Agree H.tells H.told t self.old.held }
-        ensures txn { self.new ≡ holding self.old (without o self.old.held) }
-        ensures put { IfSome (object_in o self.old.held)
+        ensures txn { self.new ≡ holding self.old (without_held o self.old.held) }
+        ensures put { IfSome (held_object o self.old.held)
             (λ x. IsPut (H.told x.annals) o x (X.shelving shelf.old) (X.shelving shelf.new)) }
         ensures serves { Serves H.told H.last self.new (X.shelving shelf.new) }
         ensures under { (t : Terms) → Agree H.tells H.told t self.old.held → X.under shelf.old t
@@ -114,13 +120,14 @@ fn take_ready<H: Annals, X: Shelf<PlainObject<H>>>(
         (λ _. (X.shelving shelf.old).out o ≡ None) }
     requires terms { (t : Terms) × X.under shelf.old t }
     ensures ok { IfOk result
-        (λ object. IsTaken H.told H.last H.spare o object (X.shelving shelf.old)
+        (λ object. HasTaken H.told H.last H.spare o object (X.shelving shelf.old)
         (X.shelving shelf.new)) }
     ensures err { IfErr result
         (λ fail. Leaves H.told H.last fail o (X.shelving shelf.old) (X.shelving shelf.new)) }
     ensures asked { IfErr result (λ fail. (fail ≢ HoldFail.NoObject) × (fail ≢ HoldFail.Full)) }
     ensures exact { IfSome (X.shelving shelf.old).home
         (λ xs. (result ≡ Err HoldFail.Busy) ↔ (slice_get xs o ≡ Some None)) }
+    ensures memory { result ≡ Err HoldFail.Memory → H.tells ≡ true }
     ensures under { (t : Terms) → X.under shelf.old t → X.under shelf.new t }
     ensures legal { IfOk result
         (λ object. (t : Terms) → X.under shelf.old t

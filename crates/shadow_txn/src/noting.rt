@@ -1,12 +1,14 @@
 //! Commands on one held object, and the acts that they are where its annals keep acts.
 
-ghost use Rattle.std.specs.Prelude.{◌≡◌, ◌<◌, Ok, Err, Some, false, IfOk, OnOk, OnErr, IsTrue, vec_len, vec_capacity};
+ghost use Rattle.std.specs.Prelude.{◌≡◌, ◌<◌, Ok, Err, Some, false, IfOk, OnOk, OnErr, IsTrue};
+ghost use Rattle.std.specs.Prelude.{vec_len, vec_capacity};
 ghost use Rattle.eos_ops.specs.declared.command.Command.TheVariants as command;
 ghost use Rattle.eos_ops.specs.Edits.{outcome_in};
+ghost use Rattle.eos_ops.specs.Memory.{GivesBytes};
 ghost use Rattle.eos_ops.specs.Objects.{object_of, with_bytes, length_in, read_in, reply_of};
 ghost use Rattle.shadow_txn.specs.Acts.{edit_command, noted, IsLed};
 ghost use Rattle.shadow_txn.specs.Held.{done_to};
-ghost use Rattle.shadow_txn.specs.Memory.{HasBytes, WantsMemory};
+ghost use Rattle.shadow_txn.specs.Memory.{WantsMemory};
 ghost use Rattle.shadow_txn.specs.Objects.{working_of, edited_object};
 ghost use Rattle.shadow_txn.specs.Replies.{bytes_reply, length_reply};
 
@@ -40,7 +42,7 @@ impl<H: Annals> Held<PlainObject<H>> {
         ensures reply { (result ≡ Err TxnFail.Memory → ⊥)
             → bytes_reply result ≡ read_in at len (working_of self.old.object) }
         ensures memory { result ≡ Err TxnFail.Memory → H.tells ≡ false
-            → HasBytes (read_in at len (working_of self.old.object)) }
+            → GivesBytes (read_in at len (working_of self.old.object)) }
         ensures same { self.new ≡ done_to self.old self.old.object
             (noted H.tells (command.Read self.old.number at len) (bytes_reply result)) }
     {

@@ -11,7 +11,8 @@ use std::alloc::{AllocError, Global};
 
 /// A byte string in two versions, with the ends of the transactions that held it.
 ///
-/// Without a working version the two are equal, so both ends of a transaction move and take no memory.
+/// Without a working version the two are equal, so both ends of a transaction move and take no
+/// memory.
 #[derive(Drop)]
 pub struct PlainObject<H> {
     /// What the last commit left.
@@ -39,9 +40,10 @@ impl<H: Annals> Aged for PlainObject<H> {
 
 impl<H> PlainObject<H> {
     ghost use Rattle.eos_ops.specs.Edits.{outcome_in};
+    ghost use Rattle.eos_ops.specs.Memory.{GivesBytes};
     ghost use Rattle.eos_ops.specs.Objects.{length_in, read_in};
     ghost use Rattle.shadow_txn.specs.declared.fails.TxnFail.TheVariants.{Memory};
-    ghost use Rattle.shadow_txn.specs.Memory.{HasBytes, WantsMemory};
+    ghost use Rattle.shadow_txn.specs.Memory.{WantsMemory};
     ghost use Rattle.shadow_txn.specs.Objects.{working_of, edited_object};
     ghost use Rattle.shadow_txn.specs.Replies.{bytes_reply, length_reply};
 
@@ -69,7 +71,7 @@ impl<H> PlainObject<H> {
     pub(crate) fn read(&self, alloc: Global, at: u64, len: u64) -> Result<Bytes, TxnFail>
         ensures reply { (result ≡ Err Memory → ⊥)
             → bytes_reply result ≡ read_in at len (working_of self.now) }
-        ensures memory { result ≡ Err Memory → HasBytes (read_in at len (working_of self.now)) }
+        ensures memory { result ≡ Err Memory → GivesBytes (read_in at len (working_of self.now)) }
     {
         let Plain::Present(bytes) = self.current() else {
             return Err(TxnFail::Missing);
@@ -83,8 +85,8 @@ impl<H> PlainObject<H> {
         }
     }
 
-    /// Edits the working version alone, which is made by the first edit. After any answer but `Done` nothing has
-    /// changed.
+    /// Edits the working version alone, which is made by the first edit. After any answer but
+    /// `Done` nothing has changed.
     pub(crate) fn edit(&mut self, alloc: Global, edit: &Edit) -> Result<Outcome, AllocError>
         ensures outcome { IfOk result
             (λ outcome. outcome ≡ outcome_in edit.now (working_of self.old)) }

@@ -2,7 +2,7 @@
 
 ghost use Rattle.std.specs.Prelude.{◌≡◌, IfOk};
 ghost use Rattle.eos_ops.specs.Objects.{reply_of};
-ghost use Rattle.shadow_txn.specs.Acts.{is_own as is_own_reply};
+ghost use Rattle.shadow_txn.specs.Acts.{is_objects_own};
 ghost use Rattle.shadow_txn.specs.Replies.{fail_reply, bytes_reply, length_reply};
 
 use crate::TxnFail;
@@ -11,7 +11,7 @@ use std::alloc::{AllocError, Global};
 
 /// Whether the reply is one that the object itself gives.
 pub(crate) fn is_own(reply: &Reply) -> bool
-    ensures { result ≡ is_own_reply reply.now }
+    ensures { result ≡ is_objects_own reply.now }
 {
     matches!(
         reply,

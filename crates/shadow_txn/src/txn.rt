@@ -1,8 +1,9 @@
 //! A session's place for a transaction.
 
-ghost use Rattle.std.specs.Prelude.{◌≡◌, ◌↔◌, ◌≤◌, ◌^◌, ◌+◌, Err, true, false, IfOk, OnOk, OnErr, is_some};
-ghost use Rattle.shadow_txn.specs.Transaction.{Transaction, fresh, begun};
-ghost use Rattle.shadow_txn.specs.Held.{object_in};
+ghost use Rattle.std.specs.Prelude.{◌≡◌, ◌↔◌, ◌≤◌, ◌^◌, ◌+◌, Err, true, false, IfOk, OnOk, OnErr};
+ghost use Rattle.std.specs.Prelude.{is_some};
+ghost use Rattle.shadow_txn.specs.Transaction.{Transaction, unbegun, with_begin};
+ghost use Rattle.shadow_txn.specs.Held.{held_object};
 
 use crate::held::place_of;
 use crate::{BeginFail, Held, PlainObject};
@@ -28,7 +29,7 @@ impl<H: Annals> Model for Txn<H> {
     ghost use Rattle.std.specs.Prelude.{vec_capacity};
     ghost use Rattle.shadow_txn.specs.declared.plain_object.PlainObject.{PlainObject};
     ghost use Rattle.shadow_txn.specs.Acts.{IsLed};
-    ghost use Rattle.shadow_txn.specs.Transaction.{Transaction, IsSound};
+    ghost use Rattle.shadow_txn.specs.Transaction.{Transaction, IsSoundTxn};
 
     ghost Value = { Transaction (PlainObject H) };
 
@@ -41,7 +42,7 @@ impl<H: Annals> Model for Txn<H> {
       held = t.held.items;
     } };
 
-    ghost invariant = { λ t. IsSound (λ x. H.spare x.annals) (λ x. H.last x.annals)
+    ghost invariant = { λ t. IsSoundTxn (λ x. H.spare x.annals) (λ x. H.last x.annals)
         (IsLed H.tells H.told H.last) (vec_capacity t.held)
         (record {
           session = t.session;
@@ -58,12 +59,14 @@ impl<H: Annals> Txn<H> {
     ghost use Rattle.shadow_txn.specs.declared.plain_object.PlainObject.{PlainObject};
     ghost use Rattle.shadow_txn.specs.Serving.{Serves};
 
-    /// A place for the transactions of a session, which is numbered from 1 on, over so many objects. None is open.
+    /// A place for the transactions of a session, which is numbered from 1 on, over so many
+    /// objects. None is open.
     ///
-    /// It makes the room for all objects that may be held. `AllocError` says that there was no memory for it.
+    /// It makes the room for all objects that may be held. `AllocError` says that there was no
+    /// memory for it.
     pub fn new(alloc: Global, session: u32, objects: u32) -> Result<Txn<H>, AllocError>
         requires { 1 ≤ session }
-        ensures { IfOk result (λ txn. txn ≡ fresh session objects) }
+        ensures { IfOk result (λ txn. txn ≡ unbegun session objects) }
     {
         let held = Vec::with_capacity(alloc, MAX_HELD)?;
         Ok(Txn {
@@ -86,14 +89,14 @@ impl<H: Annals> Txn<H> {
 
     /// Whether the transaction holds object `o`.
     pub fn holds(&self, o: u64) -> bool
-        ensures { result ≡ is_some (object_in o self.now.held) }
+        ensures { result ≡ is_some (held_object o self.now.held) }
     {
         place_of(&self.held, o).is_some()
     }
 
     /// Begins a transaction, with the next number.
     pub fn begin(&mut self) -> Result<(), BeginFail>
-        ensures ok { OnOk result (self.new ≡ begun self.old) }
+        ensures ok { OnOk result (self.new ≡ with_begin self.old) }
         ensures active { (result ≡ Err BeginFail.Active) ↔ (self.old.is_open ≡ true) }
         ensures worn { (result ≡ Err BeginFail.Worn)
             ↔ ((self.old.is_open ≡ false) × (self.old.stamp ≡ 2 ^ 62)) }

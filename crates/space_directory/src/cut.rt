@@ -1,12 +1,15 @@
 //! The data pages of a space cut apart: the free ones into slots, the others into runs.
 
-ghost use Rattle.std.specs.Prelude.{◌≡◌, ◌+◌, ◌-◌, ◌<◌, ◌≤◌, ◌++◌, ◌∷◌, [], ℕ, Bool, length, replicate, take, drop, slice_index_or, None, MatchBool, vec_capacity, vec_len};
+ghost use Rattle.std.specs.Prelude.{◌≡◌, ◌+◌, ◌-◌, ◌<◌, ◌≤◌, ◌++◌, ◌∷◌, [], ℕ, Bool, length};
+ghost use Rattle.std.specs.Prelude.{replicate, take, drop, slice_index_or, None, MatchBool};
+ghost use Rattle.std.specs.Prelude.{vec_capacity, vec_len};
 ghost use Rattle.block_model.specs.Block.{has_page};
-ghost use Rattle.space_directory.specs.Slots.{KeepsOthers, IsFilled, slot_at};
+ghost use Rattle.space_directory.specs.Slots.{KeepsSlots, AreSpread, pages_held};
 ghost use Rattle.space_directory.specs.Held.{HoldsFree};
-ghost use Rattle.space_directory.specs.Opening.{IsRest, pages_of_all, unfree};
+ghost use Rattle.space_directory.specs.Opening.{IsRest, AreUsedRuns, held_where};
 ghost use Rattle.page_port.specs.Pages.{IsSized};
 
+use crate::runs::run_end;
 use crate::slots::put_run;
 use buddy_map::BuddyMap;
 use page_port::Span;
@@ -21,8 +24,9 @@ pub fn cut_apart<S: Span>(span: S, map: &BuddyMap, slots: &mut Vec<Option<S>>, u
     requires room { length map.now ≤ vec_capacity used.old }
     ensures slots { (size : ℕ) → IsSized S.tells size (S.contents span)
         → HoldsFree S.start S.contents S.tells size (S.start span) map.now slots.new.items }
-    ensures used { pages_of_all S.start S.contents used.new.items
-        ≡ unfree (S.start span) map.now (S.contents span) }
+    ensures held { pages_held S.contents slots.new.items ≡ held_where map.now (S.contents span) }
+    ensures used { AreUsedRuns S.start S.contents (S.start span) map.now (S.contents span)
+        used.new.items }
 {
     let pages = span.pages();
     let mut rest = Some(span);
@@ -34,23 +38,6 @@ pub fn cut_apart<S: Span>(span: S, map: &BuddyMap, slots: &mut Vec<Option<S>>, u
         rest = tail;
         at = end;
     }
-}
-
-/// Where the pages that are alike, free or not, end: those from `at` on.
-pub fn run_end(map: &BuddyMap, at: u32, pages: u32) -> u32
-    requires size { length map.now ≡ pages }
-    requires within { at < pages }
-    ensures some { at < result }
-    ensures within { result ≤ pages }
-    ensures alike { (p : ℕ) → at ≤ p → p < result → has_page map.now p ≡ has_page map.now at }
-{
-    let is_free = map.is_free(at);
-    for end in at + 1..pages {
-        if map.is_free(end) != is_free {
-            return end;
-        }
-    }
-    pages
 }
 
 /// Cuts off the first `n` pages of a span, and gives them and what is left.
@@ -80,9 +67,10 @@ pub fn place_run<S: Span>(
     requires within { at + length (S.contents run) ≤ length slots.old.items }
     requires room { vec_len used.old < vec_capacity used.old }
     ensures slots { MatchBool is_free
-        (IsFilled S.start S.contents (S.start run) (S.contents run) slots.new.items at (length (S.contents run)))
+        (AreSpread S.start S.contents (S.start run)
+        (S.contents run) slots.new.items at (length (S.contents run)))
         (slots.new.items ≡ slots.old.items) }
-    ensures others { KeepsOthers slots.old.items slots.new.items at (length (S.contents run)) }
+    ensures others { KeepsSlots slots.old.items slots.new.items at (length (S.contents run)) }
     ensures used { MatchBool is_free (used.new.items ≡ used.old.items)
         (used.new.items ≡ used.old.items ++ run ∷ []) }
     ensures room { vec_capacity used.new ≡ vec_capacity used.old }

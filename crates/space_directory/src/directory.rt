@@ -1,9 +1,10 @@
 //! The bytes of a directory page.
 
-ghost use Rattle.std.specs.Prelude.{◌≡◌, ◌+◌, ◌-◌, ◌*◌, ◌/◌, ◌≤◌, ◌++◌, ◌^◌, ◌↔◌, length, take, replicate, IfOk, Err, IsTrue};
+ghost use Rattle.std.specs.Prelude.{◌≡◌, ◌+◌, ◌-◌, ◌*◌, ◌/◌, ◌≤◌, ◌++◌, ◌^◌, ◌↔◌, length, take};
+ghost use Rattle.std.specs.Prelude.{replicate, IfOk, Err, IsTrue};
 ghost use Rattle.block_model.specs.Bitmap.{packed};
 ghost use Rattle.block_model.specs.Directory.{directory_page};
-ghost use Rattle.space_directory.specs.Opening.{IsDirectory};
+ghost use Rattle.space_directory.specs.Opening.{IsDirectory, IsSpaceSize};
 
 use crate::refused::SpaceFail;
 use buddy_map::BuddyMap;
@@ -40,10 +41,7 @@ pub fn read_map(
     space: u16,
     page: &[u8],
 ) -> Result<BuddyMap, SpaceFail>
-    requires low { 4 ≤ order }
-    requires high { order ≤ 14 }
-    requires fits { 16 + 2 ^ order / 8 ≤ size }
-    requires most { size ≤ 4096 }
+    requires { IsSpaceSize order size }
     ensures size { IfOk result (λ map. length map ≡ 2 ^ order) }
     ensures encoded { IfOk result (λ map. page.now ≡ directory_page size space map) }
     ensures bad { result ≡ Err SpaceFail.BadDirectory → IsDirectory page.now size space order → ⊥ }

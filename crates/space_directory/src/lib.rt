@@ -11,6 +11,7 @@ mod directory;
 mod held;
 mod read;
 mod refused;
+mod runs;
 mod segment;
 mod slots;
 mod space;

@@ -1,10 +1,11 @@
 //! A space read off its directory page.
 
-ghost use Rattle.std.specs.Prelude.{◌≡◌, ◌+◌, ◌/◌, ◌^◌, ◌≤◌, [], length, replicate, false, IfOk, IfErr, None, vec_capacity};
+ghost use Rattle.std.specs.Prelude.{◌≡◌, ◌+◌, ◌/◌, ◌^◌, ◌≤◌, [], length, replicate, false, IfOk};
+ghost use Rattle.std.specs.Prelude.{IfErr, None, vec_capacity};
 ghost use Rattle.geometry_model.specs.Numbers.{space_pages};
 ghost use Rattle.page_port.specs.Pages.{IsSized};
 ghost use Rattle.space_directory.specs.SpaceView.{IsSpace};
-ghost use Rattle.space_directory.specs.Opening.{IsRead, IsDirectory, pages_of_all, unfree};
+ghost use Rattle.space_directory.specs.Opening.{IsRead, IsDirectory, AreUsedRuns, IsSpaceSize};
 
 use crate::cut::cut_apart;
 use crate::directory::read_map;
@@ -14,7 +15,7 @@ use page_port::{Geometry, Span};
 use release_locks::Locks;
 use std::alloc::{AllocError, Global};
 
-/// A space, and the spans of its pages that aren't free, in the order of their numbers.
+/// A space, and the spans of its pages that aren't free, one a run, in the order of their numbers.
 #[derive(Drop)]
 pub struct ReadSpace<S: Span> {
     pub space: Space<S>,
@@ -33,8 +34,9 @@ impl<S: Span> Space<S> {
     /// Reads space `s` of a store off its directory page. `span` is its data pages.
     ///
     /// # Errors
-    /// `BadDirectory` comes exactly where the page isn't the directory page of any set of free pages
-    /// of this space. A refusal hands the span back: all memory is taken before the first cut.
+    /// `BadDirectory` comes exactly where the page isn't the directory page of any set of free
+    /// pages of this space. A refusal hands the span back: all memory is taken before the first
+    /// cut.
     pub fn read_page(
         alloc: Global,
         geometry: &Geometry,
@@ -45,9 +47,9 @@ impl<S: Span> Space<S> {
         requires count { length (S.contents span) ≡ space_pages geometry.now }
         requires sized { IsSized S.tells geometry.now.page (S.contents span) }
         ensures read { IfOk result (λ r. IsRead page.now geometry.now.page s geometry.now.order
-            (S.start span) r.space) }
-        ensures used { IfOk result (λ r. pages_of_all S.start S.contents r.used.items
-            ≡ unfree (S.start span) r.space.free (S.contents span)) }
+            (S.start span) (S.contents span) r.space) }
+        ensures used { IfOk result (λ r. AreUsedRuns S.start S.contents (S.start span) r.space.free
+            (S.contents span) r.used.items) }
         ensures space { IfOk result (λ r. IsSpace r.space) }
 
         // A refusal keeps nothing, and has its cause.
@@ -70,15 +72,13 @@ fn read_space<S: Span>(
     page: &[u8],
     span: S,
 ) -> Result<ReadSpace<S>, SpaceRefused<S>>
-    requires low { 4 ≤ order }
-    requires high { order ≤ 14 }
-    requires fits { 16 + 2 ^ order / 8 ≤ size }
-    requires most { size ≤ 4096 }
+    requires numbers { IsSpaceSize order size }
     requires count { length (S.contents span) ≡ 2 ^ order }
     requires sized { IsSized S.tells size (S.contents span) }
-    ensures read { IfOk result (λ r. IsRead page.now size number order (S.start span) r.space) }
-    ensures used { IfOk result (λ r. pages_of_all S.start S.contents r.used.items
-        ≡ unfree (S.start span) r.space.free (S.contents span)) }
+    ensures read { IfOk result (λ r. IsRead page.now size number order
+        (S.start span) (S.contents span) r.space) }
+    ensures used { IfOk result (λ r. AreUsedRuns S.start S.contents (S.start span) r.space.free
+        (S.contents span) r.used.items) }
     ensures space { IfOk result (λ r. IsSpace r.space) }
 
     // A refusal keeps nothing, and has its cause.
@@ -109,6 +109,7 @@ fn read_space<S: Span>(
         map,
         locks,
         spans,
+        low: 0,
     };
     Ok(ReadSpace { space, used })
 }

@@ -1,14 +1,17 @@
 //! One space: its maps, the spans of its free pages, and its calls but the reading of its
 //! directory page.
 
-ghost use Rattle.std.specs.Prelude.{◌≡◌, ◌↔◌, ◌+◌, ◌-◌, ◌<◌, ◌≤◌, length, replicate, IsNone, IfNone, IfSome, None};
+ghost use Rattle.std.specs.Prelude.{◌≡◌, ◌↔◌, ◌+◌, ◌-◌, ◌<◌, ◌≤◌, ℕ, length, false, IsNone, IfNone};
+ghost use Rattle.std.specs.Prelude.{IfSome, None};
 ghost use Rattle.block_model.specs.Block.{has_page, count_of};
 ghost use Rattle.block_model.specs.Place.{place, largest as greatest};
 ghost use Rattle.block_model.specs.Directory.{directory_page};
-ghost use Rattle.space_directory.specs.SpaceView.{IsSpace, IsRunOf, IsSegmentOf, IsGrant, given, locked_more, unlocked};
+ghost use Rattle.space_directory.specs.SpaceView.{IsSpace, IsRunOf, IsSegmentOf, IsGrant};
+ghost use Rattle.space_directory.specs.SpaceView.{IsAnyGrant, after_give, after_lock, after_unlock};
 
 use crate::directory::write_directory;
 use crate::held::lock_held;
+use crate::runs::{next_free, run_end};
 use crate::segment::{Counts, Segment};
 use crate::slots::{put_run, take_run};
 use buddy_map::BuddyMap;
@@ -25,18 +28,34 @@ pub struct Space<S: Span> {
     pub(crate) map: BuddyMap,
     pub(crate) locks: Locks,
     pub(crate) spans: Vec<Option<S>>,
+    /// No page before this place of the space is free.
+    pub(crate) low: u32,
 }
 
 impl<S: Span> Model for Space<S> {
     ghost use Rattle.space_directory.specs.SpaceView.{SpaceView};
-    ghost use Rattle.space_directory.specs.Held.{IsWhole};
+    ghost use Rattle.space_directory.specs.Slots.{pages_held};
+    ghost use Rattle.space_directory.specs.Held.{OwnsFree, HasNoneBefore};
 
     ghost Value = { SpaceView };
 
-    ghost view = { λ s. record { number = s.number; first = s.first; page = s.page; free = s.map; locked = s.locks } };
+    ghost view = { λ s. record {
+      number = s.number;
+      first = s.first;
+      page = s.page;
+      free = s.map;
+      locked = s.locks;
+      held = pages_held S.contents s.spans.items;
+    } };
 
-    ghost invariant = { λ s. IsWhole S.start S.contents S.tells
-        (record { number = s.number; first = s.first; page = s.page; free = s.map; locked = s.locks }) s.spans.items };
+    ghost invariant = { λ s. OwnsFree S.start S.contents S.tells (record {
+      number = s.number;
+      first = s.first;
+      page = s.page;
+      free = s.map;
+      locked = s.locks;
+      held = pages_held S.contents s.spans.items;
+    }) s.spans.items × HasNoneBefore s.map s.low };
 }
 
 impl<S: Span> Space<S> {
@@ -62,14 +81,34 @@ impl<S: Span> Space<S> {
         })
     }
 
+    /// Takes a whole run of free pages out, some one of them. `None` comes exactly where no page is
+    /// free. It takes no memory. A row of these calls until none is left passes each page once.
+    pub fn take_any(&mut self) -> Option<S>
+        ensures taken { IfSome result (λ s. IsAnyGrant self.old self.new
+            (S.start s) (S.contents s) S.tells) }
+        ensures none { IsNone result ↔ ((page : ℕ) → has_page self.old.free page ≡ false) }
+        ensures unchanged { IfNone result (self.new ≡ self.old) }
+        ensures space { IsSpace self.new }
+    {
+        let pages = self.spans.len() as u32;
+        let Some(at) = next_free(&self.map, self.low, pages) else {
+            return None;
+        };
+        let end = run_end(&self.map, at, pages);
+        self.map.take_out(at, end - at);
+        self.low = end;
+        let span = take_run(&mut self.spans, at as usize, (end - at) as usize);
+        Some(span)
+    }
+
     /// Gives the pages of a segment back: they are free, and not locked. It takes no memory. Of a
     /// page that was free already, which the caller's own book-keeping rules out, one of the two
     /// spans is dropped.
     pub fn give(&mut self, segment: Segment<S>)
         requires { IsSegmentOf self.old segment.space (S.start segment.span)
             (S.contents segment.span) S.tells }
-        ensures given { self.new ≡ given self.old (S.start segment.span - self.old.first)
-            (length (S.contents segment.span)) }
+        ensures given { self.new ≡ after_give self.old (S.start segment.span - self.old.first)
+            (S.contents segment.span) }
         ensures space { IsSpace self.new }
     {
         let Segment { space: _, span } = segment;
@@ -77,6 +116,7 @@ impl<S: Span> Space<S> {
         let n = span.pages();
         self.map.give(at, n);
         self.locks.unlock(at, n);
+        self.low = self.low.min(at);
         put_run(&mut self.spans, at as usize, span);
     }
 
@@ -85,8 +125,8 @@ impl<S: Span> Space<S> {
     pub fn give_locked(&mut self, segment: Segment<S>)
         requires { IsSegmentOf self.old segment.space (S.start segment.span)
             (S.contents segment.span) S.tells }
-        ensures given { self.new ≡ given self.old (S.start segment.span - self.old.first)
-            (length (S.contents segment.span)) }
+        ensures given { self.new ≡ after_give self.old (S.start segment.span - self.old.first)
+            (S.contents segment.span) }
         ensures space { IsSpace self.new }
     {
         self.give(segment);
@@ -95,7 +135,7 @@ impl<S: Span> Space<S> {
     /// Locks those of the `n` pages from `first` on that aren't free. It takes no memory.
     pub fn lock(&mut self, first: u32, n: u32)
         requires { IsRunOf self.old first n }
-        ensures locked { self.new ≡ locked_more self.old (first - self.old.first) n }
+        ensures locked { self.new ≡ after_lock self.old (first - self.old.first) n }
         ensures space { IsSpace self.new }
     {
         let at = first - self.first;
@@ -105,7 +145,7 @@ impl<S: Span> Space<S> {
     /// Unlocks the `n` pages from `first` on. It takes no memory.
     pub fn unlock(&mut self, first: u32, n: u32)
         requires { IsRunOf self.old first n }
-        ensures unlocked { self.new ≡ unlocked self.old (first - self.old.first) n }
+        ensures unlocked { self.new ≡ after_unlock self.old (first - self.old.first) n }
         ensures space { IsSpace self.new }
     {
         self.locks.unlock(first - self.first, n);

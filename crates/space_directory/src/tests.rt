@@ -1,4 +1,5 @@
-//! A space of a small store: what its directory page shows, what is read off one, and which pages are refused.
+//! A space of a small store: what its directory page shows, what is read off one, and which pages
+//! are refused.
 
 ghost use Rattle.std.specs.Prelude.{◌≡◌, ◌+◌, ◌<◌, ◌≤◌, IfOk, length};
 ghost use Rattle.page_port.specs.Pages.{AreOf};
@@ -8,7 +9,8 @@ use crate::{ReadSpace, Space, SpaceFail, SpaceRefused};
 use page_port::{Bay, Geometry, MemBay, MemSpan, Span};
 use std::alloc::{AllocError, Global};
 
-/// The directory of a space of sixteen pages: the mark, space 0, sixteen free pages, a zero, the bitmap.
+/// The directory of a space of sixteen pages: the mark, space 0, sixteen free pages, a zero, the
+/// bitmap.
 const ALL_FREE: [u8; 18] = [
     0x44, 0x49, 0x52, 0x31, 0, 0, 0, 0, 0, 0, 0, 16, 0, 0, 0, 0, 0xff, 0xff,
 ];
@@ -128,8 +130,26 @@ fn pages_that_are_not_free_come_back_in_runs(rt: HostRuntime) -> Result<(), Allo
     Ok(())
 }
 
-/// Why a page is refused as the directory of space `s`, and the first and the number of the pages that
-/// come back. None where it is read.
+#[test]
+fn free_pages_are_taken_out_a_whole_run_a_call(rt: HostRuntime) -> Result<(), AllocError> {
+    let span = data_pages(rt.alloc())?;
+    let Ok(whole) = read(rt.alloc(), 0, &page_of(&TWO_RUNS_USED), span) else {
+        return Err(AllocError);
+    };
+    let ReadSpace { mut space, used } = whole;
+    for (first, pages) in [(5, 10), (17, 2)] {
+        let Some(run) = space.take_any() else {
+            return Err(AllocError);
+        };
+        assert_eq!(rt; (run.first(), run.pages()), (first, pages));
+    }
+    assert!(rt; space.take_any().is_none());
+    assert_eq!(rt; (space.counts().free, used.len()), (0, 2));
+    Ok(())
+}
+
+/// Why a page is refused as the directory of space `s`, and the first and the number of the pages
+/// that come back. None where it is read.
 fn refusal(
     alloc: Global,
     s: u16,

@@ -1,12 +1,17 @@
 -- Two spans that meet at a page: how they are found, and what is held once they are one.
-use Rattle.std.proofs.Common.{◌≡◌, ℕ, zero, suc, ◌+◌, ◌-◌, ◌<◌, ◌≤◌, Bool, true, false, ◌||◌, ◌&&◌, List, [], ◌∷◌, ◌++◌, length, take, drop, get_or, refl, sym, ap, subst, ◌∙◌, arith, length-append, drop-cons}
+use Rattle.std.proofs.Common.{◌≡◌, ℕ, zero, suc, ◌+◌, ◌-◌, ◌<◌, ◌≤◌, Bool, true, false, ◌||◌, ◌&&◌, List, [], ◌∷◌}
+use Rattle.std.proofs.Common.{◌++◌, length, take, drop, get_or, refl, sym, ap, subst, ◌∙◌, arith, length-append}
+use Rattle.std.proofs.Common.{drop-cons}
 use Rattle.std.specs.Prelude.{is_some, ◌==◌, IsTrue, IfSome, nat_lt}
 use Rattle.std.proofs.lemmas.Bool.{and_from, eq-eqb, false_from_ne_true, false≢true, lt-ltb, ltb-true, ne_eqb}
 use Rattle.std.proofs.Math.Seq.{take-append_seam, drop-append_seam}
 use Rattle.span_store.specs.Held.{AllSized, Held, HeldSpan, begins_in, is_border, is_border_in, page_in}
-use Rattle.span_store.specs.Order.{InOrder, IsBorder, IsPlace, as_one, back_part, first_at, front_part, no_span, with_join}
-use Rattle.span_store.specs.Calls.{IsCut, IsJoined}
-use Rattle.span_store.proofs.SpanLists.{InOrder-append, InOrder-back, InOrder-front, IsIn, back_of, begins_in-append, begins_in-below, begins_in-beyond, end_of, last_end, near-begins, near-held, near-inside, near-place, page_in-inside, page_of-inside, place-some, split_at}
+use Rattle.span_store.specs.Order.{InOrder, IsBorder, IsRank, as_one, back_part, first_at, front_part, no_span, with_join}
+use Rattle.span_store.specs.Calls.{IsCutAt, IsJoined}
+use Rattle.span_store.proofs.SpanLists.{InOrder-append, InOrder-back, InOrder-front, IsIn, back_of}
+use Rattle.span_store.proofs.SpanLists.{begins_in-append, begins_in-below, begins_in-beyond, end_of, last_end}
+use Rattle.span_store.proofs.SpanLists.{near-begins, near-held, near-inside, near-place, page_in-inside}
+use Rattle.span_store.proofs.SpanLists.{page_of-inside, place-some, split_at}
 use Rattle.span_store.proofs.Holds.{begun_at, cut_between}
 
 -- a test of three facts
@@ -18,7 +23,8 @@ both false b h = absurd (false≢true h)
 order_at : (rows : List HeldSpan) (i : ℕ) → InOrder 0 rows → i < length rows → 1 ≤ length (get_or rows i no_span).pages
 order_at rows i order within = let back = back_of rows i within order in back.1
 
-order_next : (rows : List HeldSpan) (i : ℕ) → InOrder 0 rows → suc i < length rows → end_of (get_or rows i no_span) ≤ (get_or rows (suc i) no_span).first
+order_next : (rows : List HeldSpan) (i : ℕ) → InOrder 0 rows → suc i < length rows →
+    end_of (get_or rows i no_span) ≤ (get_or rows (suc i) no_span).first
 order_next rows i order more =
     let back = back_of rows i (omega arith) order in
     let cut = drop-cons rows (suc i) no_span more in
@@ -31,9 +37,13 @@ pub record IsMet (rows : List HeldSpan) (page k : ℕ) : Type 0 where
   pub border : IsBorder rows page (k - 2)
 
 -- a border is found at the page's place
-pub border_found : (rows : List HeldSpan) (page k : ℕ) → InOrder 0 rows → IsPlace rows page k → is_border_in rows page ≡ true → IsMet rows page k
+pub border_found : (rows : List HeldSpan) (page k : ℕ) → InOrder 0 rows → IsRank rows page k → is_border_in rows page ≡ true →
+    IsMet rows page k
 border_found rows page zero order place is =
-    let begun = begun_at rows page 0 order place (both (is_some (page_in rows (page - 1))) (begins_in rows page) (both (nat_lt 0 page) (is_some (page_in rows (page - 1)) && begins_in rows page) is).1).1 in
+    let begun =
+    begun_at rows page 0 order place
+    (both (is_some (page_in rows (page - 1))) (begins_in rows page)
+    (both (nat_lt 0 page) (is_some (page_in rows (page - 1)) && begins_in rows page) is).1).1 in
     let some = begun.some in
     absurd (omega arith)
 border_found rows page (suc zero) order place is =
@@ -43,7 +53,7 @@ border_found rows page (suc zero) order place is =
     let some : 0 < page = ltb-true 0 page parts.0 in
     let e : 1 - 1 ≡ 0 = omega arith in
     let first : first_at rows 0 ≡ page = subst (λ (j : ℕ). first_at rows j ≡ page) e begun.first in
-    let below : IsPlace rows (page - 1) 0 = record { within = omega arith; before = λ h. absurd (omega arith); behind = λ h. omega arith } in
+    let below : IsRank rows (page - 1) 0 = record { within = omega arith; before = λ h. absurd (omega arith); behind = λ h. omega arith } in
     let none = place-some rows (page - 1) 0 order below held in
     absurd (omega arith)
 border_found rows page (suc (suc i)) order place is =
@@ -59,7 +69,7 @@ border_found rows page (suc (suc i)) order place is =
     let within : suc i < length rows = subst (λ (j : ℕ). j < length rows) e begun.within in
     let least = order_at rows i order (omega arith) in
     let ends = order_next rows i order within in
-    let below : IsPlace rows (page - 1) (suc i) = record {
+    let below : IsRank rows (page - 1) (suc i) = record {
       within = omega arith;
       before = λ h. subst (λ (j : ℕ). first_at rows j ≤ page - 1) (sym one) (omega arith);
       behind = λ h. omega arith;
@@ -77,7 +87,8 @@ border_found rows page (suc (suc i)) order place is =
     }
 
 -- where no two spans meet at the page's place there is no border
-pub no_border : (rows : List HeldSpan) (page k : ℕ) → InOrder 0 rows → IsPlace rows page k → (IsMet rows page k → ⊥) → is_border_in rows page ≡ false
+pub no_border : (rows : List HeldSpan) (page k : ℕ) → InOrder 0 rows → IsRank rows page k → (IsMet rows page k → ⊥) →
+    is_border_in rows page ≡ false
 no_border rows page k order place none = false_from_ne_true (is_border_in rows page) (λ h. none (border_found rows page k order place h))
 
 -- where two spans meet there is a border
@@ -94,18 +105,22 @@ border_is rows page i order met =
     let held : is_some (page_in rows (page - 1)) ≡ true =
     ap is_some (page_in-inside rows i (page - 1) order last ∙ page_of-inside (get_or rows i no_span) (page - 1) last.from last.to) in
     let begun : begins_in rows page ≡ true =
-    near-begins rows (i + 1) page (near-inside rows (i + 1) page order first) within ∙ eq-eqb (get_or rows (i + 1) no_span).first page next in
-    and_from (nat_lt 0 page) (is_some (page_in rows (page - 1)) && begins_in rows page) some (and_from (is_some (page_in rows (page - 1))) (begins_in rows page) held begun)
+    near-begins rows (i + 1) page (near-inside rows (i + 1) page order first) within
+    ∙ eq-eqb (get_or rows (i + 1) no_span).first page next in
+    and_from (nat_lt 0 page) (is_some (page_in rows (page - 1)) && begins_in rows page) some
+    (and_from (is_some (page_in rows (page - 1))) (begins_in rows page) held begun)
 
 -- two spans as one, cut where they met, are the two
-parts_again : (s t : HeldSpan) → t.first ≡ end_of s → (front_part (as_one s t) (length s.pages) ≡ s) × (back_part (as_one s t) (length s.pages) ≡ t)
+parts_again : (s t : HeldSpan) → t.first ≡ end_of s →
+    (front_part (as_one s t) (length s.pages) ≡ s) × (back_part (as_one s t) (length s.pages) ≡ t)
 parts_again s t meets = (
   ap (λ (ps : List (List ℕ)). record { first = s.first; pages = ps }) (take-append_seam s.pages t.pages),
   ap (λ (ps : List (List ℕ)). record { first = s.first + length s.pages; pages = ps }) (drop-append_seam s.pages t.pages)
       ∙ ap (λ (k : ℕ). record { first = k; pages = t.pages }) (sym meets),
 )
 
-join_order : (xs ys : List HeldSpan) (s t : HeldSpan) → t.first ≡ end_of s → InOrder 0 (xs ++ (s ∷ t ∷ ys)) → InOrder 0 (xs ++ (as_one s t ∷ ys))
+join_order : (xs ys : List HeldSpan) (s t : HeldSpan) → t.first ≡ end_of s → InOrder 0 (xs ++ (s ∷ t ∷ ys)) →
+    InOrder 0 (xs ++ (as_one s t ∷ ys))
 join_order xs ys s t meets order =
     let back = InOrder-back 0 xs (s ∷ t ∷ ys) order in
     let some = back.1 in
@@ -115,7 +130,8 @@ join_order xs ys s t meets order =
     (back.0, omega arith, subst (λ (k : ℕ). InOrder k ys) ends back.2.2)
 
 -- spans between others, made one
-join_between : (xs ys : List HeldSpan) (s t : HeldSpan) (m : ℕ) → t.first ≡ end_of s → InOrder 0 (xs ++ (s ∷ t ∷ ys)) → IsJoined (end_of s) (record { spans = xs ++ (s ∷ t ∷ ys); room = m }) (record { spans = xs ++ (as_one s t ∷ ys); room = m })
+join_between : (xs ys : List HeldSpan) (s t : HeldSpan) (m : ℕ) → t.first ≡ end_of s → InOrder 0 (xs ++ (s ∷ t ∷ ys)) →
+    IsJoined (end_of s) (record { spans = xs ++ (s ∷ t ∷ ys); room = m }) (record { spans = xs ++ (as_one s t ∷ ys); room = m })
 join_between xs ys s t m meets order =
     let r = as_one s t in
     let n = length s.pages in
@@ -135,13 +151,18 @@ join_between xs ys s t m meets order =
     record {
       whole = begins_in-append xs (r ∷ ys) (end_of s) ∙ ap (λ (b : Bool). b || ((s.first == end_of s) || begins_in ys (end_of s))) left
           ∙ ap (λ (b : Bool). b || begins_in ys (end_of s)) here ∙ right;
-      cut = subst (λ (x : HeldSpan). IsCut (end_of s) (record { spans = xs ++ (r ∷ ys); room = m }) (record { spans = xs ++ (x ∷ t ∷ ys); room = m })) again.0
-          (subst (λ (x : HeldSpan). IsCut (end_of s) (record { spans = xs ++ (r ∷ ys); room = m }) (record { spans = xs ++ (front_part r n ∷ x ∷ ys); room = m })) again.1 cut);
-      room = refl;
+      cut =
+          subst
+          (λ (x : HeldSpan). IsCutAt (end_of s) (record { spans = xs ++ (r ∷ ys); room = m })
+          (record { spans = xs ++ (x ∷ t ∷ ys); room = m })) again.0
+          (subst (λ (x : HeldSpan). IsCutAt (end_of s) (record { spans = xs ++ (r ∷ ys); room = m })
+          (record { spans = xs ++ (front_part r n ∷ x ∷ ys); room = m })) again.1 cut);
+      room = omega arith;
     }
 
 -- the span at i and the one behind it, made one
-pub join_made : (rows now : List HeldSpan) (w : Held) (i m n page : ℕ) → record { spans = rows; room = m } ≡ w → InOrder 0 rows → IsBorder rows page i → now ≡ with_join rows i → n ≡ m
+pub join_made : (rows now : List HeldSpan) (w : Held) (i m n page : ℕ) → record { spans = rows; room = m } ≡ w → InOrder 0 rows →
+    IsBorder rows page i → now ≡ with_join rows i → n ≡ m
     → InOrder 0 now × IsJoined page w (record { spans = now; room = n })
 join_made rows now w i m n page view order met is same =
     let s = get_or rows i no_span in
@@ -153,19 +174,23 @@ join_made rows now w i m n page view order met is same =
     let end : end_of s ≡ page = met.end in
     let next : t.first ≡ page = subst (λ (j : ℕ). first_at rows j ≡ page) more met.next in
     let meets : t.first ≡ end_of s = next ∙ sym end in
-    let split : rows ≡ xs ++ (s ∷ t ∷ ys) = split_at rows i (omega arith) ∙ ap (λ (rest : List HeldSpan). xs ++ (s ∷ rest)) (drop-cons rows (suc i) no_span within) in
+    let split : rows ≡ xs ++ (s ∷ t ∷ ys) =
+    split_at rows i (omega arith) ∙ ap (λ (rest : List HeldSpan). xs ++ (s ∷ rest)) (drop-cons rows (suc i) no_span within) in
     let whole : InOrder 0 (xs ++ (s ∷ t ∷ ys)) = subst (InOrder 0) split order in
-    let old : record { spans = xs ++ (s ∷ t ∷ ys); room = m } ≡ w = ap (λ (zs : List HeldSpan). record { spans = zs; room = m }) (sym split) ∙ view in (
+    let old : record { spans = xs ++ (s ∷ t ∷ ys); room = m } ≡ w =
+    ap (λ (zs : List HeldSpan). record { spans = zs; room = m }) (sym split) ∙ view in (
       subst (InOrder 0) (sym is) (join_order xs ys s t meets whole),
       subst (λ (k : ℕ). IsJoined page w (record { spans = now; room = k })) (sym same)
           (subst (λ (zs : List HeldSpan). IsJoined page w (record { spans = zs; room = m })) (sym is)
           (subst (λ (h : Held). IsJoined page h (record { spans = with_join rows i; room = m })) old
-          (subst (λ (p : ℕ). IsJoined p (record { spans = xs ++ (s ∷ t ∷ ys); room = m }) (record { spans = with_join rows i; room = m })) end
+          (subst (λ (p : ℕ). IsJoined p (record { spans = xs ++ (s ∷ t ∷ ys); room = m })
+          (record { spans = with_join rows i; room = m })) end
           (join_between xs ys s t m meets whole)))),
     )
 
 -- the page is a border of what is held
-pub border_held : (rows : List HeldSpan) (w : Held) (i m page : ℕ) → record { spans = rows; room = m } ≡ w → InOrder 0 rows → IsBorder rows page i → is_border w page ≡ true
+pub border_held : (rows : List HeldSpan) (w : Held) (i m page : ℕ) → record { spans = rows; room = m } ≡ w → InOrder 0 rows →
+    IsBorder rows page i → is_border w page ≡ true
 border_held rows w i m page view order met = sym (ap (λ (h : Held). is_border h page) view) ∙ border_is rows page i order met
 
 -- told pages of the right size

@@ -4,3 +4,5 @@ pub mod Meters
 pub mod Overwrites
 pub mod Holds
 pub mod Joins
+pub mod Lacks
+pub mod Turns

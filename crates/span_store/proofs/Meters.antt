@@ -1,22 +1,7 @@
 -- The counts of a port after several calls that read, or that write.
 use Rattle.std.proofs.Common.{◌≡◌, ℕ, ◌+◌, ◌<◌, ◌≤◌, refl, ap, ◌∙◌, inl, inr, arith}
 use Rattle.std.proofs.lemmas.Bool.{cases_lt}
-use Rattle.page_port.specs.Counts.{HasCause, IsUsed, Meter, counted, after_read, after_write}
-use Rattle.span_store.specs.Calls.{ReadsUpTo, WritesUpTo}
-
--- a port that wasn't used, and one that was used twice
-pub IsUsed-none : (m : Meter) → IsUsed m m
-IsUsed-none m = record { page = refl; faults = omega arith; read = omega arith; written = omega arith }
-
-pub IsUsed-then : (old mid new : Meter) → IsUsed old mid → IsUsed mid new → IsUsed old new
-IsUsed-then old mid new first second =
-    let faults = first.faults in
-    let read = first.read in
-    let written = first.written in
-    let faults_next = second.faults in
-    let read_next = second.read in
-    let written_next = second.written in
-    record { page = second.page ∙ first.page; faults = omega arith; read = omega arith; written = omega arith }
+use Rattle.fault_count.specs.Counts.{Meter, Reads, Writes, counted, after_read, after_write}
 
 -- so many pages were read so far
 pub record HasRead (n : ℕ) (old now : Meter) : Type 0 where
@@ -30,7 +15,8 @@ pub HasRead-none : (m : Meter) → HasRead 0 m m
 HasRead-none m = record { page = refl; none = λ e. refl; some = λ h. absurd (omega arith); faults = omega arith; read = omega arith }
 
 -- one call more
-pub HasRead-more : (a b : ℕ) (old mid new : Meter) → HasRead a old mid → 0 < b → new ≡ after_read mid b new.faults → mid.read ≤ new.read → mid.faults ≤ new.faults → HasRead (a + b) old new
+pub HasRead-more : (a b : ℕ) (old mid new : Meter) → HasRead a old mid → 0 < b → new ≡ after_read mid b new.faults → mid.read ≤ new.read →
+    mid.faults ≤ new.faults → HasRead (a + b) old new
 HasRead-more a b old mid new so_far more e read faults =
     let page : new.page ≡ mid.page = ap (λ (m : Meter). m.page) e in
     let faults_before = so_far.faults in
@@ -40,7 +26,8 @@ HasRead-more a b old mid new so_far more e read faults =
       none = λ n. absurd (omega arith);
       some = λ h. e ∙ elim (cases_lt 0 a) [
         | inl some ↦ ap (λ (m : Meter). after_read m b new.faults) (so_far.some some)
-            ∙ ap (λ (k : ℕ). record old { faults = new.faults; read = k }) (let s : counted (counted old.read a) b ≡ counted old.read (a + b) = omega arith in s)
+            ∙ ap (λ (k : ℕ). record old { faults = new.faults; read = k })
+            (let s : counted (counted old.read a) b ≡ counted old.read (a + b) = omega arith in s)
         | inr none ↦ ap (λ (m : Meter). after_read m b new.faults) (so_far.none (omega arith))
             ∙ ap (λ (k : ℕ). after_read old k new.faults) (let s : b ≡ a + b = omega arith in s)
       ];
@@ -48,7 +35,7 @@ HasRead-more a b old mid new so_far more e read faults =
       read = omega arith;
     }
 
-pub HasRead-most : (a n : ℕ) (old new : Meter) → HasRead a old new → 0 < a → a ≤ n → ReadsUpTo n old new
+pub HasRead-most : (a n : ℕ) (old new : Meter) → HasRead a old new → 0 < a → a ≤ n → Reads n old new
 HasRead-most a n old new so_far some less =
     let e = so_far.some some in
     let read : new.read ≡ counted old.read a = ap (λ (m : Meter). m.read) e in
@@ -70,7 +57,8 @@ pub record HasWritten (n : ℕ) (old now : Meter) : Type 0 where
 pub HasWritten-none : (m : Meter) → HasWritten 0 m m
 HasWritten-none m = record { page = refl; none = λ e. refl; some = λ h. absurd (omega arith); faults = omega arith; written = omega arith }
 
-pub HasWritten-more : (a b : ℕ) (old mid new : Meter) → HasWritten a old mid → 0 < b → new ≡ after_write mid b new.faults → mid.written ≤ new.written → mid.faults ≤ new.faults → HasWritten (a + b) old new
+pub HasWritten-more : (a b : ℕ) (old mid new : Meter) → HasWritten a old mid → 0 < b → new ≡ after_write mid b new.faults →
+    mid.written ≤ new.written → mid.faults ≤ new.faults → HasWritten (a + b) old new
 HasWritten-more a b old mid new so_far more e written faults =
     let page : new.page ≡ mid.page = ap (λ (m : Meter). m.page) e in
     let faults_before = so_far.faults in
@@ -80,7 +68,8 @@ HasWritten-more a b old mid new so_far more e written faults =
       none = λ n. absurd (omega arith);
       some = λ h. e ∙ elim (cases_lt 0 a) [
         | inl some ↦ ap (λ (m : Meter). after_write m b new.faults) (so_far.some some)
-            ∙ ap (λ (k : ℕ). record old { faults = new.faults; written = k }) (let s : counted (counted old.written a) b ≡ counted old.written (a + b) = omega arith in s)
+            ∙ ap (λ (k : ℕ). record old { faults = new.faults; written = k })
+            (let s : counted (counted old.written a) b ≡ counted old.written (a + b) = omega arith in s)
         | inr none ↦ ap (λ (m : Meter). after_write m b new.faults) (so_far.none (omega arith))
             ∙ ap (λ (k : ℕ). after_write old k new.faults) (let s : b ≡ a + b = omega arith in s)
       ];
@@ -88,7 +77,7 @@ HasWritten-more a b old mid new so_far more e written faults =
       written = omega arith;
     }
 
-pub HasWritten-most : (a n : ℕ) (old new : Meter) → HasWritten a old new → 0 < a → a ≤ n → WritesUpTo n old new
+pub HasWritten-most : (a n : ℕ) (old new : Meter) → HasWritten a old new → 0 < a → a ≤ n → Writes n old new
 HasWritten-most a n old new so_far some less =
     let e = so_far.some some in
     let written : new.written ≡ counted old.written a = ap (λ (m : Meter). m.written) e in
@@ -98,9 +87,3 @@ HasWritten-most a n old new so_far some less =
       read = read;
       most = omega arith;
     }
-
--- a failure of the last call
-pub HasCause-then : (F G : Type 0) (old mid new : ℕ) → old ≤ mid → HasCause mid new F → (G → F) → HasCause old new G
-HasCause-then F G old mid new kept last same =
-    let kept_last = last.kept in
-    record { kept = omega arith; raised = λ g. let rose = last.raised (same g) in omega arith }

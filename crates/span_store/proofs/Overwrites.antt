@@ -1,5 +1,7 @@
 -- Spans of which some pages were written: they keep their shape and all other pages.
-use Rattle.std.proofs.Common.{◌≡◌, ℕ, zero, suc, ◌+◌, ◌-◌, ◌*◌, ◌<◌, ◌≤◌, ◌⊎◌, Bool, ◌||◌, List, [], ◌∷◌, ◌++◌, length, take, drop, get_or, set, Option, Some, None, refl, sym, ap, subst, ◌∙◌, inl, inr, arith, take-add}
+use Rattle.std.proofs.Common.{◌≡◌, ℕ, zero, suc, ◌+◌, ◌-◌, ◌*◌, ◌<◌, ◌≤◌, ◌⊎◌, Bool, ◌||◌, List, [], ◌∷◌, ◌++◌}
+use Rattle.std.proofs.Common.{length, take, drop, get_or, set, Option, Some, None, refl, sym, ap, subst, ◌∙◌, inl}
+use Rattle.std.proofs.Common.{inr, arith, take-add}
 use Rattle.std.specs.Prelude.{is_some, slice_get, ◌==◌, IsTrue, unwrap_or}
 use Rattle.std.specs.Option.{option_or}
 use Rattle.std.proofs.lemmas.Bool.{cases_lt, le-leb, cases_eq}
@@ -9,7 +11,8 @@ use Rattle.tree_model.specs.Content.{run_bytes}
 use Rattle.span_store.specs.Held.{HeldSpan, bytes_in, page_of, page_in, begins_in}
 use Rattle.span_store.specs.Order.{EachSized, HaveRun, HaveSameShape, InOrder, IsOver, no_span}
 use Rattle.std.proofs.Math.Nat.{add-mul}
-use Rattle.span_store.proofs.Runs.{run_bytes-add, run_bytes-same}
+use Rattle.span_store.proofs.Runs.{run_bytes-same}
+use Rattle.tree_model.proofs.PageCountLaws.{run_bytes-add}
 use Rattle.span_store.proofs.SpanLists.{Before, Behind, Inside, end_of, page_of-before, page_of-behind, page_of-inside, where_is}
 
 -- spans of one shape
@@ -26,7 +29,8 @@ HaveSameShape-trans (x ∷ xs) (y ∷ ys) [] first second = absurd second
 HaveSameShape-trans (x ∷ xs) (y ∷ ys) (z ∷ zs) first second =
     (second.0 ∙ first.0, second.1 ∙ first.1, HaveSameShape-trans xs ys zs first.2 second.2)
 
-pub HaveSameShape-set : (xs : List HeldSpan) (i : ℕ) (t : HeldSpan) → i < length xs → t.first ≡ (get_or xs i no_span).first → length t.pages ≡ length (get_or xs i no_span).pages → HaveSameShape xs (set xs i t)
+pub HaveSameShape-set : (xs : List HeldSpan) (i : ℕ) (t : HeldSpan) → i < length xs → t.first ≡ (get_or xs i no_span).first →
+    length t.pages ≡ length (get_or xs i no_span).pages → HaveSameShape xs (set xs i t)
 HaveSameShape-set [] i t within first long = absurd (omega arith)
 HaveSameShape-set (x ∷ xs) zero t within first long = (first, long, HaveSameShape-refl xs)
 HaveSameShape-set (x ∷ xs) (suc i) t within first long = (refl, refl, HaveSameShape-set xs i t (omega arith) first long)
@@ -107,7 +111,8 @@ kept_behind from n old new k kept more =
     ∙ slice_get-drop (from + n) old (k - (from + n)) ∙ ap (slice_get old) e
 
 -- a page of a span that wasn't written
-kept_page : (s t : HeldSpan) (from n q : ℕ) → t.first ≡ s.first → KeepsOthers from n s.pages t.pages → (q < s.first + from) ⊎ (s.first + from + n ≤ q) → page_of t q ≡ page_of s q
+kept_page : (s t : HeldSpan) (from n q : ℕ) → t.first ≡ s.first → KeepsOthers from n s.pages t.pages →
+    (q < s.first + from) ⊎ (s.first + from + n ≤ q) → page_of t q ≡ page_of s q
 kept_page s t from n q first kept out = elim (cases_lt q s.first) [
   | inl before ↦ page_of-before t q (omega arith) ∙ sym (page_of-before s q before)
   | inr behind ↦
@@ -123,13 +128,15 @@ kept_page s t from n q first kept out = elim (cases_lt q s.first) [
 ]
 
 -- a span in place of one that holds the same on a page
-page_in-set : (xs : List HeldSpan) (i : ℕ) (t : HeldSpan) (q : ℕ) → i < length xs → page_of t q ≡ page_of (get_or xs i no_span) q → page_in (set xs i t) q ≡ page_in xs q
+page_in-set : (xs : List HeldSpan) (i : ℕ) (t : HeldSpan) (q : ℕ) → i < length xs → page_of t q ≡ page_of (get_or xs i no_span) q →
+    page_in (set xs i t) q ≡ page_in xs q
 page_in-set [] i t q within same = absurd (omega arith)
 page_in-set (x ∷ xs) zero t q within same = ap (λ (o : Option (List ℕ)). option_or o (page_in xs q)) same
 page_in-set (x ∷ xs) (suc i) t q within same = ap (option_or (page_of x q)) (page_in-set xs i t q (omega arith) same)
 
 -- pages of one span were written
-pub IsOver-one : (xs : List HeldSpan) (i from n : ℕ) (t : HeldSpan) → i < length xs → t.first ≡ (get_or xs i no_span).first → KeepsOthers from n (get_or xs i no_span).pages t.pages → IsOver ((get_or xs i no_span).first + from) n xs (set xs i t)
+pub IsOver-one : (xs : List HeldSpan) (i from n : ℕ) (t : HeldSpan) → i < length xs → t.first ≡ (get_or xs i no_span).first →
+    KeepsOthers from n (get_or xs i no_span).pages t.pages → IsOver ((get_or xs i no_span).first + from) n xs (set xs i t)
 IsOver-one xs i from n t within first kept = record {
   shape = HaveSameShape-set xs i t within first kept.count;
   before = λ q less. page_in-set xs i t q within (kept_page (get_or xs i no_span) t from n q first kept (inl less));
@@ -140,7 +147,8 @@ pub IsOver-none : (first : ℕ) (xs : List HeldSpan) → IsOver first 0 xs xs
 IsOver-none first xs = record { shape = HaveSameShape-refl xs; before = λ q less. refl; behind = λ q more. refl }
 
 -- and then the pages behind them
-pub IsOver-more : (first a b : ℕ) (xs ys zs : List HeldSpan) → IsOver first a xs ys → IsOver (first + a) b ys zs → IsOver first (a + b) xs zs
+pub IsOver-more : (first a b : ℕ) (xs ys zs : List HeldSpan) → IsOver first a xs ys → IsOver (first + a) b ys zs →
+    IsOver first (a + b) xs zs
 IsOver-more first a b xs ys zs so_far more = record {
   shape = HaveSameShape-trans xs ys zs so_far.shape more.shape;
   before = λ q less. more.before q (omega arith) ∙ so_far.before q less;
@@ -155,17 +163,21 @@ IsOver-most first a n xs ys so_far less = record {
 }
 
 -- a span of the right page size in place of one
-pub EachSized-set : (told : Bool) (size : ℕ) (xs : List HeldSpan) (i : ℕ) (t : HeldSpan) → i < length xs → EachSized told size xs → (IsTrue told → AreOf size t.pages) → EachSized told size (set xs i t)
+pub EachSized-set : (told : Bool) (size : ℕ) (xs : List HeldSpan) (i : ℕ) (t : HeldSpan) → i < length xs → EachSized told size xs →
+    (IsTrue told → AreOf size t.pages) → EachSized told size (set xs i t)
 EachSized-set told size xs i t within sized here is_told k d less = elim (cases_eq k i) [
   | inl same ↦
       let there : get_or (set xs i t) k d ≡ t = ap (λ (j : ℕ). get_or (set xs i t) j d) same ∙ get_or-set_same xs i t d within in
       subst (λ (s : HeldSpan). AreOf size s.pages) (sym there) (here is_told)
   | inr other ↦
-      subst (λ (s : HeldSpan). AreOf size s.pages) (sym (get_or-set_other xs i k t d other)) (sized is_told k d (omega (arith, length-set xs i t)))
+      subst (λ (s : HeldSpan). AreOf size s.pages) (sym (get_or-set_other xs i k t d other))
+      (sized is_told k d (omega (arith, length-set xs i t)))
 ]
 
 -- one call wrote pages of the span at i, from a page of it on
-pub written_part : (xs : List HeldSpan) (i page count from n : ℕ) (s t : HeldSpan) → i < length xs → get_or xs i no_span ≡ s → s.first ≤ page → from ≡ page - s.first → n ≡ count → t.first ≡ s.first → KeepsOthers from n s.pages t.pages → IsOver page count xs (set xs i t)
+pub written_part : (xs : List HeldSpan) (i page count from n : ℕ) (s t : HeldSpan) → i < length xs → get_or xs i no_span ≡ s →
+    s.first ≤ page → from ≡ page - s.first → n ≡ count → t.first ≡ s.first → KeepsOthers from n s.pages t.pages →
+    IsOver page count xs (set xs i t)
 written_part xs i page count from n s t within e low place same first kept =
     let r = get_or xs i no_span in
     let here : KeepsOthers from n r.pages t.pages = subst (λ (u : HeldSpan). KeepsOthers from n u.pages t.pages) (sym e) kept in
@@ -176,14 +188,16 @@ written_part xs i page count from n s t within e low place same first kept =
 
 -- the bytes written so far, and one part more
 pub written_more : (xs ys : List HeldSpan) (first done page count size : ℕ) (bytes : List ℕ) → page ≡ first + done → IsOver page count xs ys
-    → run_bytes (bytes_in xs) first done ≡ take (done * size) bytes → run_bytes (bytes_in ys) page count ≡ take ((done + count) * size - done * size) (drop (done * size) bytes)
+    → run_bytes (bytes_in xs) first done ≡ take (done * size) bytes →
+    run_bytes (bytes_in ys) page count ≡ take ((done + count) * size - done * size) (drop (done * size) bytes)
     → run_bytes (bytes_in ys) first (done + count) ≡ take ((done + count) * size) bytes
 written_more xs ys first done page count size bytes at over before here =
     let ends : done * size + count * size ≡ (done + count) * size = sym (add-mul done count size) in
     let long : (done + count) * size - done * size ≡ count * size = omega arith in
     run_bytes-add (bytes_in ys) first done count
     ∙ ap (λ (rest : List ℕ). rest ++ run_bytes (bytes_in ys) (first + done) count)
-    (run_bytes-same (bytes_in ys) (bytes_in xs) first done (λ q from to. ap (λ (o : Option (List ℕ)). unwrap_or o []) (over.before q (omega arith))) ∙ before)
+    (run_bytes-same (bytes_in ys) (bytes_in xs) first done
+    (λ q from to. ap (λ (o : Option (List ℕ)). unwrap_or o []) (over.before q (omega arith))) ∙ before)
     ∙ ap (λ (k : ℕ). take (done * size) bytes ++ run_bytes (bytes_in ys) k count) (sym at)
     ∙ ap (λ (rest : List ℕ). take (done * size) bytes ++ rest) here
     ∙ ap (λ (k : ℕ). take (done * size) bytes ++ take k (drop (done * size) bytes)) long

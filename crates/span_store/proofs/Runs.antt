@@ -1,5 +1,7 @@
 -- The bytes of runs of pages: joined, and those that one span has.
-use Rattle.std.proofs.Common.{min, inl, inr, length-drop, ◌≡◌, ℕ, zero, suc, ◌+◌, ◌-◌, ◌*◌, ◌/◌, ◌%◌, ◌<◌, ◌≤◌, List, [], ◌++◌, length, take, drop, get_or, refl, sym, ap, ◌∙◌, append_assoc, arith, drop-cons, zero-add, add-zero}
+use Rattle.std.proofs.Common.{min, inl, inr, length-drop, ◌≡◌, ℕ, zero, suc, ◌+◌, ◌-◌, ◌*◌, ◌/◌, ◌%◌, ◌<◌, ◌≤◌}
+use Rattle.std.proofs.Common.{List, [], ◌++◌, length, take, drop, get_or, refl, sym, ap, subst, ◌∙◌, append_assoc}
+use Rattle.std.proofs.Common.{arith, drop-cons, zero-add, add-zero}
 use Rattle.std.specs.Prelude.{unwrap_or}
 use Rattle.std.specs.List.{concat}
 use Rattle.std.proofs.lemmas.Bool.{cases_lt}
@@ -10,32 +12,23 @@ use Rattle.std.proofs.lemmas.Slice.{take-put_mid}
 use borrow.Rule.Slice.PartMut.{put_mid}
 use Rattle.tree_model.specs.Tree.{Pages}
 use Rattle.tree_model.specs.Content.{run_bytes}
+use Rattle.tree_model.proofs.PageCountLaws.{run_bytes-add}
 use Rattle.page_port.specs.Pages.{IsWhole}
 use Rattle.span_store.specs.Held.{HeldSpan, bytes_in, span_of, spans_of}
 use Rattle.span_store.specs.Order.{HaveRun, InOrder, no_span}
 use Rattle.span_store.proofs.SpanLists.{IsIn, IsNear, in_span, near-held, page_in-inside, page_of-inside, span_at}
 
--- one run behind another one
-pub run_bytes-add : (at : Pages) (first a b : ℕ) → run_bytes at first (a + b) ≡ run_bytes at first a ++ run_bytes at (first + a) b
-run_bytes-add at first zero b =
-    ap (run_bytes at first) (zero-add b) ∙ ap (λ (k : ℕ). run_bytes at k b) (sym (add-zero first))
-run_bytes-add at first (suc a) b =
-    let more : suc a + b ≡ suc (a + b) = omega arith in
-    let next : (first + 1) + a ≡ first + suc a = omega arith in
-    ap (run_bytes at first) more
-    ∙ ap (λ (rest : List ℕ). at first ++ rest) (run_bytes-add at (first + 1) a b)
-    ∙ sym (append_assoc (at first) (run_bytes at (first + 1) a) (run_bytes at ((first + 1) + a) b))
-    ∙ ap (λ (k : ℕ). (at first ++ run_bytes at (first + 1) a) ++ run_bytes at k b) next
-
 -- only the pages of the run count
-pub run_bytes-same : (at other : Pages) (first n : ℕ) → ((q : ℕ) → first ≤ q → q < first + n → at q ≡ other q) → run_bytes at first n ≡ run_bytes other first n
+pub run_bytes-same : (at other : Pages) (first n : ℕ) → ((q : ℕ) → first ≤ q → q < first + n → at q ≡ other q) →
+    run_bytes at first n ≡ run_bytes other first n
 run_bytes-same at other first zero same = refl
 run_bytes-same at other first (suc n) same =
     ap (λ (page : List ℕ). page ++ run_bytes at (first + 1) n) (same first (omega arith) (omega arith))
     ∙ ap (λ (rest : List ℕ). other first ++ rest) (run_bytes-same at other (first + 1) n (λ q from to. same q (omega arith) (omega arith)))
 
 -- pages in a row that a list has
-pub run_bytes-list : (at : Pages) (first from n : ℕ) (pages : List (List ℕ)) → ((k : ℕ) → k < length pages → at (first + k) ≡ get_or pages k []) → from + n ≤ length pages
+pub run_bytes-list : (at : Pages) (first from n : ℕ) (pages : List (List ℕ)) →
+    ((k : ℕ) → k < length pages → at (first + k) ≡ get_or pages k []) → from + n ≤ length pages
     → run_bytes at (first + from) n ≡ concat (take n (drop from pages))
 run_bytes-list at first from zero pages each fits = refl
 run_bytes-list at first from (suc n) pages each fits =
@@ -46,7 +39,8 @@ run_bytes-list at first from (suc n) pages each fits =
     ∙ sym (ap (λ (rest : List (List ℕ)). concat (take (suc n) rest)) (drop-cons pages from [] (omega arith)))
 
 -- the pages of one span
-pub run_bytes-span : (spans : List HeldSpan) (i from n : ℕ) → InOrder 0 spans → i < length spans → from + n ≤ length (get_or spans i no_span).pages
+pub run_bytes-span : (spans : List HeldSpan) (i from n : ℕ) → InOrder 0 spans → i < length spans →
+    from + n ≤ length (get_or spans i no_span).pages
     → run_bytes (bytes_in spans) ((get_or spans i no_span).first + from) n ≡ concat (take n (drop from (get_or spans i no_span).pages))
 run_bytes-span spans i from n order within fits =
     let r = get_or spans i no_span in
@@ -77,8 +71,10 @@ part_fits done count pages size bytes less e =
     omega arith
 
 -- one part more is copied
-pub copied_more : (at : Pages) (first done count size k : ℕ) (out part : List ℕ) → take (done * size) out ≡ run_bytes at first done → part ≡ run_bytes at (first + done) count
-    → length part ≡ count * size → (done + count) * size ≤ length out → take ((done + count) * size) (put_mid (done * size) k out part) ≡ run_bytes at first (done + count)
+pub copied_more : (at : Pages) (first done count size k : ℕ) (out part : List ℕ) → take (done * size) out ≡ run_bytes at first done →
+    part ≡ run_bytes at (first + done) count
+    → length part ≡ count * size → (done + count) * size ≤ length out →
+    take ((done + count) * size) (put_mid (done * size) k out part) ≡ run_bytes at first (done + count)
 copied_more at first done count size k out part copied more long fits =
     let ends : (done + count) * size ≡ done * size + count * size = add-mul done count size in
     take-put_mid (done * size) k out part ((done + count) * size) (omega arith) (omega arith)
@@ -115,7 +111,8 @@ pub record IsPart (first len page done pages count : ℕ) : Type 0 where
   pub inside : (page - first) + count ≤ len
   pub next : done + count < pages → page + count ≡ first + len
 
-pub part_is : (first len page done pages count : ℕ) → first ≤ page → page < first + len → done < pages → count ≡ min (first + len - page) (pages - done) → IsPart first len page done pages count
+pub part_is : (first len page done pages count : ℕ) → first ≤ page → page < first + len → done < pages →
+    count ≡ min (first + len - page) (pages - done) → IsPart first len page done pages count
 part_is first len page done pages count from to more e = record {
   some = omega arith;
   within = omega arith;
@@ -124,7 +121,8 @@ part_is first len page done pages count from to more e = record {
 }
 
 -- the next page of a run is in the span near it
-pub next_in : (spans : List HeldSpan) (first n done page i : ℕ) → HaveRun spans first n → page ≡ first + done → done < n → IsNear spans i page → IsIn spans i page
+pub next_in : (spans : List HeldSpan) (first n done page i : ℕ) → HaveRun spans first n → page ≡ first + done → done < n →
+    IsNear spans i page → IsIn spans i page
 next_in spans first n done page i held e more near = near-held spans i page near (held page (omega arith) (omega arith))
 
 -- the bytes of a part
@@ -140,7 +138,8 @@ pub record IsTurn {X : Type 0} (start : X → ℕ) (contents : X → List (List 
   pub from : start x ≤ page
   pub to : page < start x + length (contents x)
 
-pub index_in : {X : Type 0} (start : X → ℕ) (contents : X → List (List ℕ)) (items : List X) (first n pages done page i : ℕ) → HaveRun (spans_of start contents items) first n → pages ≡ n → page ≡ first + done → done < pages
+pub index_in : {X : Type 0} (start : X → ℕ) (contents : X → List (List ℕ)) (items : List X) (first n pages done page i : ℕ) →
+    HaveRun (spans_of start contents items) first n → pages ≡ n → page ≡ first + done → done < pages
     → (done < pages → IsNear (spans_of start contents items) i page) → i < length items
 index_in start contents items first n pages done page i held count e more near =
     let here = next_in (spans_of start contents items) first n done page i held e (omega arith) (near more) in
@@ -148,7 +147,8 @@ index_in start contents items first n pages done page i held count e more near =
     let same = length-map items (span_of start contents) in
     omega arith
 
-pub turn_in : {X : Type 0} (start : X → ℕ) (contents : X → List (List ℕ)) (items : List X) (first n pages done page i : ℕ) (x : X) → HaveRun (spans_of start contents items) first n → pages ≡ n → page ≡ first + done → done < pages
+pub turn_in : {X : Type 0} (start : X → ℕ) (contents : X → List (List ℕ)) (items : List X) (first n pages done page i : ℕ) (x : X) →
+    HaveRun (spans_of start contents items) first n → pages ≡ n → page ≡ first + done → done < pages
     → (done < pages → IsNear (spans_of start contents items) i page) → x ≡ get_or items i x → IsTurn start contents items page i x
 turn_in start contents items first n pages done page i x held count e more near read =
     let here = next_in (spans_of start contents items) first n done page i held e (omega arith) (near more) in
@@ -157,7 +157,8 @@ turn_in start contents items first n pages done page i x held count e more near 
     record { here = here; same = same; from = inside.0; to = inside.1 }
 
 -- what the part of a span holds
-pub part_bytes : (spans : List HeldSpan) (i page count : ℕ) (s : HeldSpan) → InOrder 0 spans → i < length spans → get_or spans i no_span ≡ s → s.first ≤ page → (page - s.first) + count ≤ length s.pages
+pub part_bytes : (spans : List HeldSpan) (i page count : ℕ) (s : HeldSpan) → InOrder 0 spans → i < length spans →
+    get_or spans i no_span ≡ s → s.first ≤ page → (page - s.first) + count ≤ length s.pages
     → run_bytes (bytes_in spans) page count ≡ concat (take count (drop (page - s.first) s.pages))
 part_bytes spans i page count s order within e from fits =
     let r = get_or spans i no_span in
@@ -165,20 +166,44 @@ part_bytes spans i page count s order within e from fits =
     let long : length r.pages ≡ length s.pages = ap (λ (t : HeldSpan). length t.pages) e in
     let place : r.first + (page - r.first) ≡ page = omega arith in
     let here : run_bytes (bytes_in spans) page count ≡ concat (take count (drop (page - r.first) r.pages)) =
-    sym (ap (λ (k : ℕ). run_bytes (bytes_in spans) k count) place) ∙ run_bytes-span spans i (page - r.first) count order within (omega arith) in
+    sym (ap (λ (k : ℕ). run_bytes (bytes_in spans) k count) place)
+    ∙ run_bytes-span spans i (page - r.first) count order within (omega arith) in
     here ∙ ap (λ (t : HeldSpan). concat (take count (drop (page - t.first) t.pages))) e
 
--- the part of the bytes that one call moves
+-- the bytes that one call moves: those of `count` pages behind the first `done`
+abbrev pub piece : ℕ → ℕ → ℕ → List ℕ → List ℕ
+piece size done count bytes = take ((done + count) * size - done * size) (drop (done * size) bytes)
+
+-- they are whole pages, and within the bytes
 pub record IsMoved (size done count : ℕ) (bytes : List ℕ) : Type 0 where
   pub fits : (done + count) * size ≤ length bytes
-  pub long : length (take ((done + count) * size - done * size) (drop (done * size) bytes)) ≡ count * size
-  pub whole : IsWhole size (length (take ((done + count) * size - done * size) (drop (done * size) bytes)))
-  pub count_is : length (take ((done + count) * size - done * size) (drop (done * size) bytes)) / size ≡ count
+  pub long : length (piece size done count bytes) ≡ count * size
+  pub whole : IsWhole size (length (piece size done count bytes))
+  pub count_is : length (piece size done count bytes) / size ≡ count
 
-pub moved_is : (size done count pages : ℕ) (bytes : List ℕ) → 0 < size → 0 < count → done + count ≤ pages → pages ≡ length bytes / size → IsMoved size done count bytes
+pub moved_is : (size done count pages : ℕ) (bytes : List ℕ) → 0 < size → 0 < count → done + count ≤ pages → pages ≡ length bytes / size →
+    IsMoved size done count bytes
 moved_is size done count pages bytes page some within e =
     let fits = part_fits done count pages size (length bytes) within e in
     let ends : done * size + count * size ≡ (done + count) * size = sym (add-mul done count size) in
     let long = part_length (done * size) ((done + count) * size) (count * size) bytes ends fits in
-    let whole = whole_pages count size (length (take ((done + count) * size - done * size) (drop (done * size) bytes))) some page long in
+    let whole = whole_pages count size (length (piece size done count bytes)) some page long in
     record { fits = fits; long = long; whole = whole.0; count_is = whole.1 }
+
+-- what one turn moves: the part of the run that one span has, and its bytes, as many pages by the port's size
+pub record IsMove (size unit first len page done pages count : ℕ) (bytes : List ℕ) : Type 0 where
+  pub part : IsPart first len page done pages count
+  pub moved : IsMoved size done count bytes
+  pub whole : IsWhole unit (length (piece size done count bytes))
+  pub quotient : length (piece size done count bytes) / unit ≡ count
+
+pub move_is : (size unit first len page done pages count : ℕ) (bytes : List ℕ) → IsPart first len page done pages count → 0 < size →
+    pages ≡ length bytes / size → size ≡ unit → IsMove size unit first len page done pages count bytes
+move_is size unit first len page done pages count bytes part some all same =
+    let moved = moved_is size done count pages bytes some part.some part.within all in
+    record {
+      part = part;
+      moved = moved;
+      whole = subst (λ (k : ℕ). IsWhole k (length (piece size done count bytes))) same moved.whole;
+      quotient = sym (ap (λ (k : ℕ). length (piece size done count bytes) / k) same) ∙ moved.count_is;
+    }

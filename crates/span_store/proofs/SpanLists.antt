@@ -1,5 +1,7 @@
 -- Lists of spans in order: what they hold on a page, where they begin, and which one has a page.
-use Rattle.std.proofs.Common.{◌≡◌, ℕ, zero, suc, ◌+◌, ◌-◌, ◌<◌, ◌≤◌, Bool, true, false, ◌||◌, List, [], ◌∷◌, ◌++◌, length, take, drop, get_or, Option, Some, None, refl, sym, ap, subst, ◌∙◌, inl, inr, arith, drop-cons, take-append-drop}
+use Rattle.std.proofs.Common.{◌≡◌, ℕ, zero, suc, ◌+◌, ◌-◌, ◌<◌, ◌≤◌, Bool, true, false, ◌||◌, List, [], ◌∷◌, ◌++◌}
+use Rattle.std.proofs.Common.{length, take, drop, get_or, Option, Some, None, refl, sym, ap, subst, ◌∙◌, inl, inr}
+use Rattle.std.proofs.Common.{arith, drop-cons, take-append-drop}
 use Rattle.std.specs.Prelude.{is_some, ◌==◌, IsTrue, slice_get}
 use Rattle.std.specs.Option.{option_or, option_map}
 use Rattle.std.proofs.lemmas.List.{length-map, drop-drop, drop_all, take_more, take_all, get_or-map}
@@ -7,7 +9,7 @@ use Rattle.std.proofs.lemmas.List.Folds.{list_any-append}
 use Rattle.std.proofs.lemmas.Bool.{cases_lt, le-leb, lt-leb, ne_eqb, false≢true}
 use Rattle.std.proofs.lemmas.Option.{slice_get-get_or, slice_get_past, slice_get_within, slice_get-map, get_or_from_slice_get}
 use Rattle.span_store.specs.Held.{HeldSpan, span_of, spans_of, page_of, page_in, begins_in}
-use Rattle.span_store.specs.Order.{InOrder, IsPlace, no_span, first_at}
+use Rattle.span_store.specs.Order.{InOrder, IsRank, no_span, first_at}
 
 -- where a span ends: the page behind its last one
 abbrev pub end_of : HeldSpan → ℕ
@@ -144,7 +146,8 @@ pub record IsNear (spans : List HeldSpan) (i page : ℕ) : Type 0 where
   pub before : last_end 0 (take i spans) ≤ page
   pub behind : InOrder (suc page) (drop (suc i) spans)
 
-pub near-page : (spans : List HeldSpan) (i page : ℕ) → IsNear spans i page → i < length spans → page_in spans page ≡ page_of (get_or spans i no_span) page
+pub near-page : (spans : List HeldSpan) (i page : ℕ) → IsNear spans i page → i < length spans →
+    page_in spans page ≡ page_of (get_or spans i no_span) page
 near-page spans i page near within =
     let r = get_or spans i no_span in
     let left = page_in-beyond 0 (take i spans) page near.front near.before in
@@ -159,7 +162,8 @@ pub near-past : (spans : List HeldSpan) (i page : ℕ) → IsNear spans i page �
 near-past spans i page near past =
     ap (λ (xs : List HeldSpan). page_in xs page) (sym (take_all i spans past)) ∙ page_in-beyond 0 (take i spans) page near.front near.before
 
-pub near-begins : (spans : List HeldSpan) (i page : ℕ) → IsNear spans i page → i < length spans → begins_in spans page ≡ ((get_or spans i no_span).first == page)
+pub near-begins : (spans : List HeldSpan) (i page : ℕ) → IsNear spans i page → i < length spans →
+    begins_in spans page ≡ ((get_or spans i no_span).first == page)
 near-begins spans i page near within =
     let r = get_or spans i no_span in
     let left = begins_in-beyond 0 (take i spans) page near.front near.before in
@@ -176,7 +180,8 @@ near-begins spans i page near within =
 
 pub near-begins_past : (spans : List HeldSpan) (i page : ℕ) → IsNear spans i page → length spans ≤ i → begins_in spans page ≡ false
 near-begins_past spans i page near past =
-    ap (λ (xs : List HeldSpan). begins_in xs page) (sym (take_all i spans past)) ∙ begins_in-beyond 0 (take i spans) page near.front near.before
+    ap (λ (xs : List HeldSpan). begins_in xs page) (sym (take_all i spans past))
+    ∙ begins_in-beyond 0 (take i spans) page near.front near.before
 
 -- a page that is held is one of the span near it
 pub record IsIn (spans : List HeldSpan) (i page : ℕ) : Type 0 where
@@ -198,7 +203,8 @@ pub front_of : (spans : List HeldSpan) (i : ℕ) → i < length spans → InOrde
 front_of spans i within order =
     InOrder-front 0 (take i spans) (drop i spans) (subst (InOrder 0) (sym (take-append-drop i spans)) order)
 
-pub back_of : (spans : List HeldSpan) (i : ℕ) → i < length spans → InOrder 0 spans → InOrder (last_end 0 (take i spans)) (get_or spans i no_span ∷ drop (suc i) spans)
+pub back_of : (spans : List HeldSpan) (i : ℕ) → i < length spans → InOrder 0 spans →
+    InOrder (last_end 0 (take i spans)) (get_or spans i no_span ∷ drop (suc i) spans)
 back_of spans i within order =
     InOrder-back 0 (take i spans) (get_or spans i no_span ∷ drop (suc i) spans) (subst (InOrder 0) (split_at spans i within) order)
 
@@ -215,7 +221,8 @@ near-inside spans i page order here =
       behind = InOrder-low (suc page) (end_of (get_or spans i no_span)) (drop (suc i) spans) (omega arith) back.2;
     }
 
-pub page_in-inside : (spans : List HeldSpan) (i page : ℕ) → InOrder 0 spans → IsIn spans i page → page_in spans page ≡ page_of (get_or spans i no_span) page
+pub page_in-inside : (spans : List HeldSpan) (i page : ℕ) → InOrder 0 spans → IsIn spans i page →
+    page_in spans page ≡ page_of (get_or spans i no_span) page
 page_in-inside spans i page order here = near-page spans i page (near-inside spans i page order here) here.within
 
 -- spans that begin behind an end of which each has a page: the second begins behind the first page too
@@ -227,7 +234,8 @@ behind_one low (x ∷ xs) h =
     InOrder-low (suc low) (end_of x) xs (omega arith) h.2
 
 -- the next span is near the page behind a span
-pub near-next : (spans : List HeldSpan) (i : ℕ) → InOrder 0 spans → i < length spans → IsNear spans (i + 1) (end_of (get_or spans i no_span))
+pub near-next : (spans : List HeldSpan) (i : ℕ) → InOrder 0 spans → i < length spans →
+    IsNear spans (i + 1) (end_of (get_or spans i no_span))
 near-next spans i order within =
     let r = get_or spans i no_span in
     let back = back_of spans i within order in
@@ -242,7 +250,7 @@ near-next spans i order within =
     }
 
 -- the span before a place is near the page
-pub near-place : (spans : List HeldSpan) (page k : ℕ) → InOrder 0 spans → IsPlace spans page k → IsNear spans (k - 1) page
+pub near-place : (spans : List HeldSpan) (page k : ℕ) → InOrder 0 spans → IsRank spans page k → IsNear spans (k - 1) page
 near-place spans page zero order place = record {
   front = tt;
   before = omega arith;
@@ -275,7 +283,8 @@ near-place spans page (suc j) order place =
     subst (λ (k : ℕ). IsNear spans k page) (sym e) near
 
 -- a span in a list of them, as contracts see it
-pub span_at : {X : Type 0} (start : X → ℕ) (contents : X → List (List ℕ)) (items : List X) (i : ℕ) (x : X) → i < length items → x ≡ get_or items i x → get_or (spans_of start contents items) i no_span ≡ span_of start contents x
+pub span_at : {X : Type 0} (start : X → ℕ) (contents : X → List (List ℕ)) (items : List X) (i : ℕ) (x : X) → i < length items →
+    x ≡ get_or items i x → get_or (spans_of start contents items) i no_span ≡ span_of start contents x
 span_at start contents items i x within read =
     get_or-map (span_of start contents) items i x no_span within ∙ ap (span_of start contents) (sym read)
 
@@ -286,7 +295,7 @@ lacks_page spans first n page from to none held =
     subst (λ (o : Option (List ℕ)). IsTrue (is_some o)) none (held page from to)
 
 -- where a page is held some span begins at it or before it
-pub place-some : (spans : List HeldSpan) (page k : ℕ) → InOrder 0 spans → IsPlace spans page k → is_some (page_in spans page) ≡ true → 0 < k
+pub place-some : (spans : List HeldSpan) (page k : ℕ) → InOrder 0 spans → IsRank spans page k → is_some (page_in spans page) ≡ true → 0 < k
 place-some spans page zero order place held =
     let here = near-held spans 0 page (near-place spans page zero order place) held in
     let behind = place.behind here.within in
@@ -295,7 +304,8 @@ place-some spans page zero order place held =
 place-some spans page (suc j) order place held = omega arith
 
 -- the span that has a page, as the code sees it
-pub in_span : {X : Type 0} (start : X → ℕ) (contents : X → List (List ℕ)) (spans : List HeldSpan) (i page : ℕ) (x : X) → IsIn spans i page → get_or spans i no_span ≡ span_of start contents x
+pub in_span : {X : Type 0} (start : X → ℕ) (contents : X → List (List ℕ)) (spans : List HeldSpan) (i page : ℕ) (x : X) → IsIn spans i page →
+    get_or spans i no_span ≡ span_of start contents x
     → (start x ≤ page) × (page < start x + length (contents x))
 in_span start contents spans i page x here e =
     let first = ap (λ (s : HeldSpan). s.first) e in
@@ -305,7 +315,8 @@ in_span start contents spans i page x here e =
     (omega arith, omega arith)
 
 -- the last of the spans ends where all of them end
-last_end-last : (low : ℕ) (xs : List HeldSpan) (n : ℕ) (s : HeldSpan) → suc n ≡ length xs → slice_get xs n ≡ Some s → last_end low xs ≡ end_of s
+last_end-last : (low : ℕ) (xs : List HeldSpan) (n : ℕ) (s : HeldSpan) → suc n ≡ length xs → slice_get xs n ≡ Some s →
+    last_end low xs ≡ end_of s
 last_end-last low [] n s e h = absurd (omega (arith, e))
 last_end-last low (x ∷ []) zero s e h = ap end_of (get_or_from_slice_get (x ∷ []) 0 s x h)
 last_end-last low (x ∷ []) (suc n) s e h = absurd (omega (arith, e))
@@ -313,8 +324,10 @@ last_end-last low (x ∷ y ∷ xs) zero s e h = absurd (omega (arith, e))
 last_end-last low (x ∷ y ∷ xs) (suc n) s e h = last_end-last (end_of x) (y ∷ xs) n s (omega (arith, e)) h
 
 -- a page that is held lies before the end of the last span
-pub below_end : {X : Type 0} (start : X → ℕ) (contents : X → List (List ℕ)) (items : List X) (x : X) (q : ℕ) → InOrder 0 (spans_of start contents items)
-    → Some x ≡ slice_get items (length items - 1) → IsTrue (is_some (page_in (spans_of start contents items) q)) → q < start x + length (contents x)
+pub below_end : {X : Type 0} (start : X → ℕ) (contents : X → List (List ℕ)) (items : List X) (x : X) (q : ℕ) →
+    InOrder 0 (spans_of start contents items)
+    → Some x ≡ slice_get items (length items - 1) → IsTrue (is_some (page_in (spans_of start contents items) q)) →
+    q < start x + length (contents x)
 below_end start contents items x q order here held =
     let f = span_of start contents in
     let within = slice_get_within items (length items - 1) x (sym here) in
@@ -324,5 +337,27 @@ below_end start contents items x q order here held =
     let ends = last_end-last 0 (spans_of start contents items) (length items - 1) (f x) (omega (arith, within, count)) last in
     elim (cases_lt q (end_of (f x))) [
       | inl below ↦ below
-      | inr beyond ↦ absurd (false≢true (sym (ap is_some (page_in-beyond 0 (spans_of start contents items) q order (omega (arith, ends, beyond)))) ∙ held))
+      | inr beyond ↦
+          absurd
+          (false≢true (sym (ap is_some (page_in-beyond 0 (spans_of start contents items) q order (omega (arith, ends, beyond)))) ∙ held))
     ]
+
+-- the last page of the last span is held
+pub held_end : {X : Type 0} (start : X → ℕ) (contents : X → List (List ℕ)) (items : List X) (x : X) →
+    InOrder 0 (spans_of start contents items) → Some x ≡ slice_get items (length items - 1) → 1 ≤ length (contents x) →
+    IsTrue (is_some (page_in (spans_of start contents items) (start x + length (contents x) - 1)))
+held_end start contents items x order here some =
+    let rows = spans_of start contents items in
+    let within = slice_get_within items (length items - 1) x (sym here) in
+    let read = sym (get_or_from_slice_get items (length items - 1) x x (sym here)) in
+    let same = span_at start contents items (length items - 1) x within read in
+    let last : get_or rows (length items - 1) no_span ≡ span_of start contents x = same in
+    let q = start x + length (contents x) - 1 in
+    let inside : IsIn rows (length items - 1) q = record {
+      within = omega (arith, within, length-map items (span_of start contents));
+      from = omega (arith, ap (λ (s : HeldSpan). s.first) last, some);
+      to = omega (arith, ap end_of last, some);
+    } in
+    ap is_some
+    (page_in-inside rows (length items - 1) q order inside
+    ∙ page_of-inside (get_or rows (length items - 1) no_span) q inside.from inside.to)

@@ -1,5 +1,7 @@
 -- What is held: spans, and through them pages.
-use Rattle.std.specs.Prelude.{◌≡◌, ℕ, ◌+◌, ◌-◌, ◌<◌, ◌≤◌, ◌==◌, ◌&&◌, Bool, IsTrue, List, [], ◌∷◌, length, map, nat_le, nat_lt, Option, None, is_some, IfSome, unwrap_or, slice_get, if◌then◌else◌}
+use Rattle.std.specs.Prelude.{◌≡◌, ℕ, ◌+◌, ◌-◌, ◌<◌, ◌≤◌, ◌==◌, ◌&&◌, Bool, IsTrue, List, [], ◌∷◌}
+use Rattle.std.specs.Prelude.{length, map, nat_le, nat_lt, Option, None, is_some, IfSome}
+use Rattle.std.specs.Prelude.{unwrap_or, slice_get, if◌then◌else◌}
 use Rattle.std.specs.List.{list_any}
 use Rattle.std.specs.Option.{option_or}
 use Rattle.tree_model.specs.Tree.{Pages}
@@ -67,13 +69,19 @@ abbrev pub IsEmpty : Held → Type 0
 IsEmpty held = (q : ℕ) → page_at held q ≡ None
 
 -- the n pages from `first` on are held
-abbrev pub HasRun : Held → ℕ → ℕ → Type 0
-HasRun held first n = (q : ℕ) → first ≤ q → q < first + n → IsTrue (has held q)
+abbrev pub HoldsRun : Held → ℕ → ℕ → Type 0
+HoldsRun held first n = (q : ℕ) → first ≤ q → q < first + n → IsTrue (has held q)
 
 -- none of the n pages from `first` on is held
 abbrev pub LacksRun : Held → ℕ → ℕ → Type 0
 LacksRun held first n = (q : ℕ) → first ≤ q → q < first + n → page_at held q ≡ None
 
+-- where the pages that are held end: one behind the last of them, 0 where none is held
+pub record IsEnd (held : Held) (end : ℕ) : Type 0 where
+  pub behind : (q : ℕ) → IsTrue (has held q) → q < end
+  pub last : 0 < end → IsTrue (has held (end - 1))
+
 -- where the spans tell, each page that is held has `size` bytes
 abbrev pub AllSized : Bool → ℕ → Held → Type 0
-AllSized told size held = IsTrue told → (q : ℕ) → IfSome (page_at held q) (λ page. length page ≡ size)
+AllSized told size held =
+    IsTrue told → (q : ℕ) → IfSome (page_at held q) (λ page. length page ≡ size)

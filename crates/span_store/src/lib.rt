@@ -1,7 +1,7 @@
 //! The spans that an object owns (its extents), kept by their first pages.
 //!
-//! Who holds a span knows what its pages hold. A run of pages is read and written by one call of the
-//! device for each span that it touches, and a span is found without looking at all of them.
+//! Who holds a span knows what its pages hold. A run of pages is read and written by one call of
+//! the device for each span that it touches, and a span is found without looking at all of them.
 #![tactic(auto)]
 
 mod holdings;

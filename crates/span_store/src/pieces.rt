@@ -1,6 +1,8 @@
-//! One span of a list: put into its place, cut in two, joined with the next one, or used from a page on.
+//! One span of a list: put into its place, cut in two, joined with the next one, or used from a
+//! page on.
 
-ghost use Rattle.std.specs.Prelude.{◌≡◌, ◌+◌, ◌-◌, ◌^◌, ◌<◌, ◌≤◌, length, min, slice_index_or, vec_len, vec_capacity};
+ghost use Rattle.std.specs.Prelude.{◌≡◌, ◌+◌, ◌-◌, ◌^◌, ◌<◌, ◌≤◌, length, min, slice_index_or};
+ghost use Rattle.std.specs.Prelude.{vec_len, vec_capacity};
 ghost use Rattle.std.specs.List.{insert};
 ghost use Rattle.span_store.specs.Held.{spans_of};
 ghost use Rattle.span_store.specs.Order.{first_at, no_span, with_cut, with_join};

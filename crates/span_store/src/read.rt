@@ -2,9 +2,8 @@
 
 ghost use Rattle.std.specs.Prelude.{◌≡◌, ◌+◌, ◌-◌, ◌*◌, ◌/◌, ◌<◌, ◌≤◌, length, IsTrue, IsErr, OnOk};
 ghost use Rattle.tree_model.specs.Content.{run_bytes};
-ghost use Rattle.page_port.specs.Counts.{HasCause, after_read};
+ghost use Rattle.fault_count.specs.Counts.{HasCause, Reads, after_read};
 ghost use Rattle.page_port.specs.Pages.{IsWhole};
-ghost use Rattle.span_store.specs.Calls.{ReadsUpTo};
 ghost use Rattle.span_store.specs.Held.{bytes_in, spans_of};
 ghost use Rattle.span_store.specs.Order.{EachSized, HaveRun, InOrder};
 
@@ -30,13 +29,13 @@ pub fn read_spans<P: Port>(
         (length out.old / (P.meter port.old).page)) }
     ensures counts { OnOk result (P.meter port.new ≡ after_read (P.meter port.old)
         (length out.old / (P.meter port.old).page) (P.meter port.new).faults) }
-    ensures reads { ReadsUpTo (length out.old / (P.meter port.old).page)
+    ensures reads { Reads (length out.old / (P.meter port.old).page)
         (P.meter port.old) (P.meter port.new) }
     ensures cause { HasCause (P.meter port.old).faults (P.meter port.new).faults (IsErr result) }
 {
     let size = port.page() as usize;
     let pages = out.len() / size;
-    let mut index = place_of(spans, first) - 1;
+    let mut index = place_of(spans, first as u64) - 1;
     let mut page = first;
     let mut done = 0;
     while done < pages {

@@ -1,9 +1,9 @@
 //! Holdings over a device in memory, whose page i is filled with i: what is held, what is read and
 //! written, and what a failed call leaves.
 
-ghost use Rattle.std.specs.Prelude.{◌≡◌, ℕ, ◌+◌, ◌*◌, ◌^◌, ◌<◌, ◌≤◌, IsTrue, true, length};
+ghost use Rattle.std.specs.Prelude.{◌≡◌, ◌+◌, ◌*◌, ◌<◌, ◌≤◌, true, length};
 ghost use Rattle.page_port.specs.Pages.{AreOf};
-ghost use Rattle.span_store.specs.Held.{AllSized, LacksRun};
+ghost use Rattle.span_store.specs.Held.{AllSized};
 
 use crate::Holdings;
 use page_port::{Bay, FailAt, MemBay, MemPort, MemSpan, Span};
@@ -26,26 +26,13 @@ fn device(rt: &impl Abort, alloc: Global, fail: Vec<FailAt>) -> (MemPort, MemSpa
     (port, span)
 }
 
-/// Is none of these pages held?
-fn lacks(held: &Holdings<MemSpan>, first: u32, pages: u32) -> bool
-    requires { first + pages < 2 ^ 32 }
-    ensures { IsTrue result → LacksRun held.now first pages }
-{
-    for page in first..first + pages {
-        if held.holds(page, 1) {
-            return false;
-        }
-    }
-    true
-}
-
 /// Holds a span more.
 fn hold(rt: &impl Abort, held: &mut Holdings<MemSpan>, span: MemSpan)
     requires sized { AreOf 256 span.pages }
     requires all { AllSized true 256 held.old }
     ensures { AllSized true 256 held.new }
 {
-    assert!(rt; lacks(held, span.first(), span.pages()));
+    assert!(rt; held.lacks(span.first(), span.pages()));
     held.reserve(1).expect(rt, "room for a span");
     held.add(span);
 }
@@ -62,8 +49,8 @@ fn cut(span: &mut MemSpan, n: u32) -> MemSpan
     span.cut(n)
 }
 
-/// The pages 1 and 2, 3, and 5 to 7 of the device as three spans, put in out of order; the pages 0 and 4
-/// are not held.
+/// The pages 1 and 2, 3, and 5 to 7 of the device as three spans, put in out of order; the pages 0
+/// and 4 are not held.
 fn holdings(rt: &impl Abort, alloc: Global, span: MemSpan) -> Holdings<MemSpan>
     requires count { length span.pages ≡ 8 }
     requires sized { AreOf 256 span.pages }
@@ -136,6 +123,29 @@ fn runs_are_held_where_each_page_is(rt: HostRuntime) {
     for (first, pages, want) in cases {
         assert_eq!(rt; held.holds(first, pages), want, "{first} {pages}");
     }
+}
+
+#[test]
+fn a_run_is_lacked_where_no_page_is_held(rt: HostRuntime) {
+    let (_, span) = device(&rt, rt.alloc(), Vec::new(rt.alloc()));
+    let held = holdings(&rt, rt.alloc(), span);
+    let cases = [
+        (0, 1, true),
+        (0, 2, false),
+        (4, 1, true),
+        (4, 2, false),
+        (3, 2, false),
+        (0, 9, false),
+        (8, 4, true),
+        (7, 1, false),
+        (u32::MAX, u32::MAX, true),
+        (3, 0, true),
+    ];
+    for (first, pages, want) in cases {
+        assert_eq!(rt; held.lacks(first, pages), want, "{first} {pages}");
+    }
+    assert_eq!(rt; held.end(), 8);
+    assert_eq!(rt; Holdings::<MemSpan>::new(rt.alloc()).end(), 0);
 }
 
 #[test]

@@ -1,10 +1,10 @@
 //! The bytes of a run of pages, written to the spans that have them.
 
-ghost use Rattle.std.specs.Prelude.{◌≡◌, ◌+◌, ◌-◌, ◌*◌, ◌/◌, ◌<◌, ◌≤◌, length, vec_capacity, IsTrue, IsErr, OnOk};
+ghost use Rattle.std.specs.Prelude.{◌≡◌, ◌+◌, ◌-◌, ◌*◌, ◌/◌, ◌<◌, ◌≤◌, length, vec_capacity};
+ghost use Rattle.std.specs.Prelude.{IsTrue, IsErr, OnOk};
 ghost use Rattle.tree_model.specs.Content.{run_bytes};
-ghost use Rattle.page_port.specs.Counts.{HasCause, after_write};
+ghost use Rattle.fault_count.specs.Counts.{HasCause, Writes, after_write};
 ghost use Rattle.page_port.specs.Pages.{IsWhole};
-ghost use Rattle.span_store.specs.Calls.{WritesUpTo};
 ghost use Rattle.span_store.specs.Held.{bytes_in, spans_of};
 ghost use Rattle.span_store.specs.Order.{EachSized, HaveRun, InOrder, IsOver};
 
@@ -12,8 +12,8 @@ use crate::pieces::pages_from;
 use crate::place::place_of;
 use page_port::{DeviceFault, Port, Span};
 
-/// Writes the pages from `first` on, by one call of the device for each span. After an error these pages
-/// may hold anything.
+/// Writes the pages from `first` on, by one call of the device for each span. After an error these
+/// pages may hold anything.
 pub fn write_spans<P: Port>(
     spans: &mut Vec<P::S>,
     port: &mut P,
@@ -37,13 +37,13 @@ pub fn write_spans<P: Port>(
     ensures counts { OnOk result (P.meter port.new ≡ after_write (P.meter port.old)
         (length bytes.now / (P.meter port.old).page) (P.meter port.new).faults) }
     ensures room { vec_capacity spans.new ≡ vec_capacity spans.old }
-    ensures writes { WritesUpTo (length bytes.now / (P.meter port.old).page)
+    ensures writes { Writes (length bytes.now / (P.meter port.old).page)
         (P.meter port.old) (P.meter port.new) }
     ensures cause { HasCause (P.meter port.old).faults (P.meter port.new).faults (IsErr result) }
 {
     let size = port.page() as usize;
     let pages = bytes.len() / size;
-    let mut index = place_of(spans.as_slice(), first) - 1;
+    let mut index = place_of(spans.as_slice(), first as u64) - 1;
     let mut page = first;
     let mut done = 0;
     while done < pages {

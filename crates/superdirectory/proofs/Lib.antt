@@ -3,5 +3,7 @@ pub mod Spots
 pub mod Exact
 pub mod Gaps
 pub mod Solos
+pub mod GrantLaws
 pub mod Halves
 pub mod Asked
+pub mod HomeLaws

@@ -1,11 +1,12 @@
 -- The spaces of one thread: all of them in their places, or one entered and away.
-use Rattle.std.specs.Prelude.{◌≡◌, ℕ, ◌≤◌, List, [], ◌∷◌, ◌++◌, length, map, slice_get, slice_set, slice_index_or, Option, Some, None}
+use Rattle.std.specs.Prelude.{◌≡◌, ℕ, ◌≤◌, List, [], ◌∷◌, ◌++◌, length, map, slice_get, slice_set}
+use Rattle.std.specs.Prelude.{slice_index_or, Option, Some, None}
 use Rattle.block_model.specs.Place.{hint_of}
 use Rattle.space_directory.specs.SpaceView.{SpaceView, IsSpace}
 use Rattle.superdirectory.specs.Rest.{Frame, Rest, IsOf}
 
--- the page size and the pages of each space, where each begins, the spaces, their hints, and the number of the
--- one that is entered
+-- the page size and the pages of each space, where each begins, the spaces, their hints, and the
+-- number of the one that is entered
 pub record SoloView : Type 0 where
   pub page : ℕ
   pub pages : ℕ
@@ -22,8 +23,8 @@ frame_of solo = record { table = None; page = solo.page; pages = solo.pages; fir
 abbrev pub rest_of : SoloView → Rest
 rest_of solo = record { frame = frame_of solo; spaces = Some solo.spaces; entered = solo.entered }
 
--- the spaces when the one at s was taken out of a row and the last one put in its place: that one is the last
--- again, and at s there is none
+-- the spaces when the one at s was taken out of a row and the last one put in its place: that one
+-- is the last again, and at s there is none
 abbrev pub with_gap : List (Option SpaceView) → ℕ → List (Option SpaceView)
 with_gap others s = slice_set (others ++ slice_index_or others s None ∷ []) s None
 
@@ -39,7 +40,7 @@ pub record IsAtHome (solo : SoloView) (s : ℕ) (v : SpaceView) : Type 0 where
   pub hint : slice_get solo.hints s ≡ Some (hint_of v.free)
 
 -- there are at most 256 spaces, each at home but the entered one
-pub record IsSolo (solo : SoloView) : Type 0 where
+pub record AreSoloSpaces (solo : SoloView) : Type 0 where
   pub most : length solo.firsts ≤ 256
   pub spaces : length solo.spaces ≡ length solo.firsts
   pub hints : length solo.hints ≡ length solo.firsts

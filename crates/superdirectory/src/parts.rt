@@ -1,14 +1,16 @@
 //! A part granted in one piece or, where no space has room for it, in halves.
 
-ghost use Rattle.std.specs.Prelude.{◌≡◌, ℕ, ◌+◌, ◌*◌, ◌/◌, ◌<◌, ◌≤◌, length, List, take, drop, IfErr, OnOk, OnErr, option_map, vec_len, vec_capacity};
+ghost use Rattle.std.specs.Prelude.{◌≡◌, ℕ, ◌+◌, ◌*◌, ◌/◌, ◌<◌, ◌≤◌, length, List, drop, IfErr};
+ghost use Rattle.std.specs.Prelude.{OnOk, option_map, vec_len, vec_capacity};
 ghost use Rattle.std.specs.Result.{result_err};
 ghost use Rattle.geometry_model.specs.Numbers.{Numbers};
 ghost use Rattle.layout_model.specs.Grants.{halved};
 ghost use Rattle.space_directory.specs.SpaceView.{SpaceView};
 ghost use Rattle.superdirectory.specs.Trace.{Part};
 ghost use Rattle.superdirectory.specs.Rest.{count};
-ghost use Rattle.superdirectory.specs.Grants.{AreTold, free_of, IsAtRest};
-ghost use Rattle.superdirectory.specs.Parts.{IsLaid, IsAnswered, IsUncut, ArePieces, IsAsked, IsAskedAll, AddsPieces};
+ghost use Rattle.superdirectory.specs.Grants.{AreTold, IsGrantFrom, free_sets, KeepsFrame};
+ghost use Rattle.superdirectory.specs.Parts.{IsLaid, AnswersHalved, AppendsPieces, LeavesAll};
+ghost use Rattle.superdirectory.specs.Parts.{IsAsked, IsAskedAll, AddsPieces};
 
 use crate::giving::give_from;
 use crate::granting::grant;
@@ -23,8 +25,9 @@ use space_directory::Segment;
 ///
 /// # Errors
 /// `NoSpace` names the pages of the first piece that was refused and not cut, fewer than twice
-/// `threshold`. The pieces before it are given back, and `into` is as before.
-pub fn grant_parts<S: Span, L: Latches<S>>(
+/// `threshold`. The pieces before it are given back, and `into` is as before; so are the told
+/// spaces, with what their free pages hold.
+pub fn grant_parts<S: Span, L: Latches<S = S>>(
     latches: &mut L,
     turn: &mut L::Turn,
     start: u16,
@@ -32,32 +35,30 @@ pub fn grant_parts<S: Span, L: Latches<S>>(
     threshold: u32,
     into: &mut Vec<Segment<S>>,
 ) -> Result<(), NoSpace>
-    requires start { start < count (L.rest latches.old) }
-    requires none { (L.rest latches.old).entered ≡ None }
-    requires some { 1 ≤ n }
-    requires fits { n ≤ (L.rest latches.old).frame.pages }
+    requires from { IsGrantFrom (L.rest latches.old) start n }
     requires threshold { 1 ≤ threshold }
     requires room { vec_len into.old + n / threshold + 1 ≤ vec_capacity into.old }
-    ensures rest { IsAtRest (L.rest latches.old) (L.rest latches.new) }
-    ensures room { vec_capacity into.new ≡ vec_capacity into.old }
-    ensures front { take (vec_len into.old) into.new.items ≡ into.old.items }
-    ensures pieces { OnOk result (ArePieces (λ g. g.space) (λ g. S.start g.span) (λ g. S.contents g.span)
-        S.tells (L.rest latches.old).frame n threshold (drop (vec_len into.old) into.new.items)) }
-    ensures refused { OnErr result (into.new.items ≡ into.old.items) }
-    ensures pages { IfErr result (λ e. IsUncut n threshold e.pages) }
+    ensures rest { KeepsFrame (L.rest latches.old) (L.rest latches.new) }
+    ensures pieces { OnOk result (AppendsPieces (λ g. g.space) (λ g. S.start g.span)
+        (λ g. S.contents g.span) S.tells (L.rest latches.old).frame n threshold (vec_len into.old)
+        (vec_capacity into.old) (vec_capacity into.new) into.old.items into.new.items) }
+    ensures refused { IfErr result (λ e. LeavesAll n threshold e.pages
+        (vec_capacity into.old) (vec_capacity into.new) into.old.items into.new.items
+        (L.rest latches.old) (L.rest latches.new)) }
 
     // Each enter of a grant follows a look that showed room, and a refusal found every space low.
     ensures trace { Part (IsAskedAll n threshold (count (L.rest latches.old))
-        (option_map (λ e. e.pages) (result_err result))) (L.trace latches.old) (L.trace latches.new) }
+        (option_map (λ e. e.pages) (result_err result))) (L.trace latches.old)
+        (L.trace latches.new) }
 
-    // Where the spaces are told, the pieces and what they leave are those of the rule of halves;
-    // a refusal leaves the spaces as they were. That the spaces begin where the numbers say is asked
+    // Where the spaces are told, the pieces and what they leave are those of the rule of halves; a
+    // refusal leaves the spaces as they were. That the spaces begin where the numbers say is asked
     // only of the pages that the rule names.
     ensures exact { (numbers : Numbers) (views : List SpaceView)
         → AreTold (L.rest latches.old) views → length views ≡ count (L.rest latches.old)
-        → IsAnswered (λ g. g.space) (λ g. S.start g.span) (λ g. S.contents g.span) views
+        → AnswersHalved (λ g. g.space) (λ g. S.start g.span) (λ g. S.contents g.span) views
         (IsLaid numbers (L.rest latches.old).frame.firsts)
-        (halved n numbers start threshold n (free_of views))
+        (halved n numbers start threshold n (free_sets views))
         (option_map (λ e. e.pages) (result_err result)) (drop (vec_len into.old) into.new.items)
         (L.rest latches.new) }
 {
@@ -75,7 +76,7 @@ pub fn grant_parts<S: Span, L: Latches<S>>(
 ///
 /// # Errors
 /// As of `grant_parts`, but the pieces before the refusal stay in `into`.
-fn grant_halved<S: Span, L: Latches<S>>(
+fn grant_halved<S: Span, L: Latches<S = S>>(
     latches: &mut L,
     turn: &mut L::Turn,
     start: u16,
@@ -83,20 +84,19 @@ fn grant_halved<S: Span, L: Latches<S>>(
     threshold: u32,
     into: &mut Vec<Segment<S>>,
 ) -> Result<(), NoSpace>
-    requires start { start < count (L.rest latches.old) }
-    requires none { (L.rest latches.old).entered ≡ None }
-    requires some { 1 ≤ n }
-    requires fits { n ≤ (L.rest latches.old).frame.pages }
+    requires from { IsGrantFrom (L.rest latches.old) start n }
     requires threshold { 1 ≤ threshold }
-    requires room { (free : ℕ) × (vec_len into.old + free ≡ vec_capacity into.old) × (n < threshold * free) }
-    ensures rest { IsAtRest (L.rest latches.old) (L.rest latches.new) }
+    requires room { (free : ℕ) × (vec_len into.old + free ≡ vec_capacity into.old)
+        × (n < threshold * free) }
+    ensures rest { KeepsFrame (L.rest latches.old) (L.rest latches.new) }
     ensures room { vec_capacity into.new ≡ vec_capacity into.old }
     ensures pieces { AddsPieces (λ g. g.space) (λ g. S.start g.span) (λ g. S.contents g.span)
         S.tells (L.rest latches.old).frame start n threshold
         (option_map (λ e. e.pages) (result_err result)) (L.rest latches.old) (L.rest latches.new)
         into.old.items into.new.items }
     ensures trace { Part (IsAsked n threshold (count (L.rest latches.old))
-        (option_map (λ e. e.pages) (result_err result))) (L.trace latches.old) (L.trace latches.new) }
+        (option_map (λ e. e.pages) (result_err result))) (L.trace latches.old)
+        (L.trace latches.new) }
 {
     let refused = match grant(latches, turn, start, n) {
         Ok(segment) => {

@@ -1,6 +1,7 @@
 //! The spaces of one thread. They are reached without locks, and their hints are exact.
 
-ghost use Rattle.std.specs.Prelude.{◌≡◌, ℕ, ◌<◌, ◌≤◌, ◌++◌, ◌∷◌, [], length, map, slice_get, IfOk, IfErr, Some, None, vec_len, vec_capacity};
+ghost use Rattle.std.specs.Prelude.{◌≡◌, ℕ, ◌<◌, ◌≤◌, ◌++◌, ◌∷◌, [], length, map, slice_get, IfOk};
+ghost use Rattle.std.specs.Prelude.{IfErr, Some, None, vec_len, vec_capacity};
 ghost use Rattle.std.specs.List.{swap};
 ghost use Rattle.block_model.specs.Place.{hint_of};
 ghost use Rattle.space_directory.specs.SpaceView.{SpaceView, IsSpace};
@@ -27,7 +28,7 @@ pub struct Solo<S: Span> {
 
 impl<S: Span> Model for Solo<S> {
     ghost use Rattle.std.specs.Prelude.{◌≡◌, ◌<◌, ℕ, map, Some, vec_len, vec_capacity};
-    ghost use Rattle.superdirectory.specs.Solo.{SoloView, IsSolo, spaces_of};
+    ghost use Rattle.superdirectory.specs.Solo.{SoloView, AreSoloSpaces, spaces_of};
 
     ghost Value = { SoloView };
 
@@ -40,7 +41,7 @@ impl<S: Span> Model for Solo<S> {
       entered = s.entered;
     } };
 
-    ghost invariant = { λ s. IsSolo (record {
+    ghost invariant = { λ s. AreSoloSpaces (record {
       page = s.page;
       pages = s.pages;
       firsts = s.firsts.items;
@@ -105,7 +106,9 @@ impl<S: Span> Hints for Solo<S> {
     }
 }
 
-impl<S: Span> Latches<S> for Solo<S> {
+impl<S: Span> Latches for Solo<S> {
+    type S = S;
+
     type Turn = ();
 
     fn enter(&mut self, _turn: &mut (), s: u16) -> Space<S> {
@@ -134,8 +137,10 @@ fn put_back<T>(items: &mut Vec<T>, at: usize, item: T)
 
 /// The hints of spaces, in order.
 fn hints_of<S: Span>(alloc: Global, spaces: &[Space<S>]) -> Result<Vec<Hint>, AllocError>
-    ensures hints { IfOk result (λ hints. map (λ hint. hint.0) hints.items ≡ map (λ v. hint_of v.free) spaces.now) }
-    ensures spaces { IfOk result (λ _. (s : ℕ) (v : SpaceView) → slice_get spaces.now s ≡ Some v → IsSpace v) }
+    ensures hints { IfOk result (λ hints. map (λ hint. hint.0) hints.items
+        ≡ map (λ v. hint_of v.free) spaces.now) }
+    ensures spaces { IfOk result (λ _. (s : ℕ) (v : SpaceView) → slice_get spaces.now s ≡ Some v →
+        IsSpace v) }
 {
     let mut hints = Vec::with_capacity(alloc, spaces.len())?;
     for space in spaces {

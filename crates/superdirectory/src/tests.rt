@@ -1,4 +1,5 @@
-//! Grants over two spaces of 16 pages, with the enters counted, and over one that is nearly used up.
+//! Grants over two spaces of 16 pages, with the enters counted, and over one that is nearly used
+//! up.
 ghost use Rattle.std.specs.Prelude.{◌≡◌, ◌+◌, ◌≤◌, [], ◌∷◌, length, IfSome, Some, None};
 ghost use Rattle.page_port.specs.Pages.{AreOf};
 ghost use Rattle.superdirectory.specs.Solo.{rest_of};
@@ -35,7 +36,9 @@ impl Hints for Counted {
     }
 }
 
-impl Latches<MemSpan> for Counted {
+impl Latches for Counted {
+    type S = MemSpan;
+
     type Turn = ();
 
     fn enter(&mut self, turn: &mut (), s: u16) -> Space<MemSpan> {
@@ -201,7 +204,8 @@ fn halved(
 
 /// Places 9 to 15 of space 0 are free: the blocks 9, 10 to 11 and 12 to 15. Space 1 is full. So 5
 /// pages find no block of 8; 3 of them take the first of places 12 to 15, and 2 places 10 and 11.
-/// Each piece that is granted costs one enter, and one where it is given back; a refusal costs none.
+/// Each piece that is granted costs one enter, and one where it is given back; a refusal costs
+/// none.
 #[test]
 fn a_part_is_granted_in_halves(rt: HostRuntime) -> Result<(), Fail> {
     let alloc = rt.alloc();

@@ -1,3 +1,4 @@
 pub mod Examples
 pub mod NodeLemmas
+pub mod PageCountLaws
 pub mod RangeLemmas

@@ -1,5 +1,6 @@
 -- What a node's page reads back as: its level and its pairs, so no two nodes have the same page.
-use Rattle.std.proofs.Common.{◌≡◌, ℕ, ◌+◌, ◌-◌, ◌*◌, ◌^◌, ◌<◌, List, [], ◌∷◌, ◌++◌, length, drop, replicate, slice_index, refl, ap, ◌∙◌, append_assoc}
+use Rattle.std.proofs.Common.{◌≡◌, ℕ, ◌+◌, ◌-◌, ◌*◌, ◌^◌, ◌<◌, List, [], ◌∷◌, ◌++◌, length, drop, replicate}
+use Rattle.std.proofs.Common.{slice_index, refl, ap, ◌∙◌, append_assoc}
 use Rattle.std.specs.List.{AllByRecursion, flat_map}
 use Rattle.std.specs.Int.{w16, from_be_bytes}
 use Rattle.std.proofs.lemmas.Nat.{from_be_bytes-to_be_bytes_2, from_be_bytes-to_be_bytes_4, from_be_bytes-to_be_bytes_8}
@@ -50,7 +51,7 @@ count-head : (level count : ℕ) (rest : List ℕ) → count < 2 ^ 16
 unfolding head_bytes
 count-head level count rest fits = from_be_bytes-to_be_bytes_2 count fits
 
-drop-head : (level count : ℕ) (rest : List ℕ) → drop 8 (head_bytes level count ++ rest) ≡ rest
+pub drop-head : (level count : ℕ) (rest : List ℕ) → drop 8 (head_bytes level count ++ rest) ≡ rest
 unfolding head_bytes
 drop-head level count rest = refl
 

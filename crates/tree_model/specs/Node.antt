@@ -1,5 +1,6 @@
 -- A node of a tree, and the bytes of the page that it stands on.
-use Rattle.std.specs.Prelude.{◌≡◌, ℕ, zero, suc, ◌+◌, ◌-◌, ◌*◌, ◌/◌, ◌^◌, ◌<◌, ◌≤◌, List, [], ◌∷◌, ◌++◌, length, drop, replicate, slice_index}
+use Rattle.std.specs.Prelude.{◌≡◌, ℕ, zero, suc, ◌+◌, ◌-◌, ◌*◌, ◌/◌, ◌^◌, ◌<◌, ◌≤◌, List, [], ◌∷◌}
+use Rattle.std.specs.Prelude.{◌++◌, length, drop, replicate, slice_index}
 use Rattle.std.specs.List.{AllByRecursion, flat_map}
 use Rattle.std.specs.Int.{w16, w32, w64, to_be_bytes, from_be_bytes}
 use Rattle.tree_model.specs.declared.entry.Pair.{Pair}
@@ -39,7 +40,8 @@ head_bytes level count = 78 ∷ level ∷ to_be_bytes w16 count ++ replicate 4 0
 -- the page of a node: the head, the pairs, and zeros up to its end
 abbrev pub node_bytes : ℕ → ℕ → List Pair → List ℕ
 node_bytes size level pairs =
-    head_bytes level (length pairs) ++ (flat_map pair_bytes pairs ++ replicate (size - (8 + 12 * length pairs)) 0)
+    head_bytes level (length pairs) ++ (flat_map pair_bytes pairs
+    ++ replicate (size - (8 + 12 * length pairs)) 0)
 
 -- the page holds this node, every byte of it
 pub record NodeBytes (page : List ℕ) (level : ℕ) (pairs : List Pair) : Type 0 where

@@ -1,5 +1,6 @@
 -- The tree of an object on pages: which pages make one, and what its entries are.
-use Rattle.std.specs.Prelude.{◌≡◌, ℕ, zero, suc, ◌+◌, ◌-◌, ◌*◌, ◌/◌, ◌≤◌, List, [], ◌∷◌, length, IsTrue, if◌then◌else◌, nat_eq}
+use Rattle.std.specs.Prelude.{◌≡◌, ℕ, zero, suc, ◌+◌, ◌-◌, ◌*◌, ◌/◌, ◌≤◌, List, [], ◌∷◌, length}
+use Rattle.std.specs.Prelude.{IsTrue, if◌then◌else◌, nat_eq}
 use Rattle.std.specs.List.{AllByRecursion, flat_map, sum_by}
 use Rattle.geometry_model.specs.Numbers.{Numbers, space_pages}
 use Rattle.geometry_model.specs.Pages.{IsInSpace, is_data_page}
@@ -30,12 +31,13 @@ pub record HasNode (at : Pages) (page level least bytes : ℕ) : Type 0 where
   pub filled : least ≤ length (pairs_on at page)
   pub counted : bytes_of (pairs_on at page) ≡ bytes
 
--- the pairs of a node of level `height + 1` name what they should: above the lowest level each names
--- a node of the level below that is half full at least and has just the pair's bytes
+-- the pairs of a node of level `height + 1` name what they should: above the lowest level each
+-- names a node of the level below that is half full at least and has just the pair's bytes
 abbrev pub AreTrees : Pages → ℕ → ℕ → List Pair → Type 0
 AreTrees at half zero pairs = Unit {0}
 AreTrees at half (suc height) pairs = AllByRecursion (λ p.
-    HasNode at p.page (suc height) half p.bytes × AreTrees at half height (pairs_on at p.page)) pairs
+    HasNode at p.page (suc height) half p.bytes
+    × AreTrees at half height (pairs_on at p.page)) pairs
 
 -- the least number of pairs in a root
 abbrev pub root_least : ℕ → ℕ
@@ -45,12 +47,14 @@ root_least height = if nat_eq height 1 then 1 else 2
 abbrev pub IsTree : Pages → ℕ → ℕ → ℕ → ℕ → Type 0
 IsTree at half zero page bytes = (page ≡ 0) × (bytes ≡ 0)
 IsTree at half (suc height) page bytes =
-    HasNode at page (suc height) (root_least (suc height)) bytes × AreTrees at half height (pairs_on at page)
+    HasNode at page (suc height) (root_least (suc height)) bytes
+    × AreTrees at half height (pairs_on at page)
 
 -- the entries under the pairs of a node of level `height + 1`, from left to right
 abbrev pub entries_under : Pages → ℕ → List Pair → List Pair
 entries_under at zero pairs = pairs
-entries_under at (suc height) pairs = flat_map (λ p. entries_under at height (pairs_on at p.page)) pairs
+entries_under at (suc height) pairs =
+    flat_map (λ p. entries_under at height (pairs_on at p.page)) pairs
 
 -- the entries of a tree
 abbrev pub entries_of : Pages → ℕ → ℕ → List Pair
@@ -60,7 +64,8 @@ entries_of at (suc height) page = entries_under at height (pairs_on at page)
 -- the pages of the nodes under the pairs of a node of level `height + 1`
 abbrev pub nodes_under : Pages → ℕ → List Pair → List ℕ
 nodes_under at zero pairs = []
-nodes_under at (suc height) pairs = flat_map (λ p. p.page ∷ nodes_under at height (pairs_on at p.page)) pairs
+nodes_under at (suc height) pairs =
+    flat_map (λ p. p.page ∷ nodes_under at height (pairs_on at p.page)) pairs
 
 -- the pages of all nodes of a tree, each above those under it
 abbrev pub nodes_of : Pages → ℕ → ℕ → List ℕ
@@ -77,5 +82,6 @@ pub record IsSegment (n : Numbers) (p : Pair) : Type 0 where
 pub record IsTreeOf (n : Numbers) (at : Pages) (root : Root) (entries : List Pair) : Type 0 where
   pub shape : IsTree at (room_of n.page / 2) root.height root.page root.length
   pub listed : entries ≡ entries_of at root.height root.page
-  pub nodes : AllByRecursion (λ page. IsTrue (is_data_page n page)) (nodes_of at root.height root.page)
+  pub nodes : AllByRecursion (λ page. IsTrue (is_data_page n page))
+      (nodes_of at root.height root.page)
   pub segments : AllByRecursion (IsSegment n) entries

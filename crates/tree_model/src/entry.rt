@@ -2,7 +2,8 @@
 
 /// An entry of a node: how many bytes lie under it, and the page that it names.
 ///
-/// In a node of level 1 it names a segment by its first page, in a node above it the page of a node.
+/// In a node of level 1 it names a segment by its first page, in a node above it the page of a
+/// node.
 #[derive(Clone, Copy, PartialEq, Eq, Debug)]
 pub struct Pair {
     /// The bytes under the entry, at least 1 in a tree.

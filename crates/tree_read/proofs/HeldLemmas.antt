@@ -2,7 +2,7 @@
 use Rattle.std.proofs.Common.{◌≡◌, ℕ, true, List, [], length, ap, refl, subst, arith}
 use Rattle.std.specs.Prelude.{Option, None, Some, is_some, unwrap_or}
 use Rattle.tree_model.specs.Node.{HoldsNode}
-use Rattle.span_store.specs.Held.{HasRun, Held, bytes_on, has, page_at}
+use Rattle.span_store.specs.Held.{HoldsRun, Held, bytes_on, has, page_at}
 
 -- a node's page isn't empty
 no-node : (page : List ℕ) → page ≡ [] → HoldsNode page → ⊥
@@ -20,7 +20,7 @@ pub held-HoldsNode : (held : Held) (page : ℕ) → HoldsNode (bytes_on held pag
 held-HoldsNode held page h = some-HoldsNode (page_at held page) h
 
 -- a page that is held is a run of one
-pub run_of_one : (held : Held) (page : ℕ) → has held page ≡ true → HasRun held page 1
+pub run_of_one : (held : Held) (page : ℕ) → has held page ≡ true → HoldsRun held page 1
 run_of_one held page is q from to =
     let same : page ≡ q = omega arith in
     subst (λ (k : ℕ). has held k ≡ true) same is

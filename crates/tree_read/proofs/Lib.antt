@@ -1,6 +1,7 @@
 pub mod ChildLemmas
-pub mod HeldLemmas
-pub mod LevelLemmas
-pub mod MeterLemmas
 pub mod TreeLemmas
 pub mod CacheLemmas
+pub mod CoverLemmas
+pub mod MeterLemmas
+pub mod LevelLemmas
+pub mod HeldLemmas

@@ -1,24 +1,17 @@
--- The entries under nodes: how they are cut at a border of pairs, how many bytes they have, and which
--- of them a range meets.
-use Rattle.std.proofs.Common.{◌≡◌, ℕ, zero, suc, ◌+◌, ◌<◌, ◌≤◌, true, false, List, [], ◌∷◌, ◌++◌, length, min, max, refl, ap, ◌∙◌, append-nil, length-append, arith}
+-- The entries under nodes: how they are cut at a border of pairs, how many bytes they have, and which of them a range
+-- meets.
+use Rattle.std.proofs.Common.{◌≡◌, ℕ, zero, suc, ◌+◌, ◌<◌, ◌≤◌, true, false, List, [], ◌∷◌, ◌++◌, length, min, max}
+use Rattle.std.proofs.Common.{refl, ap, ◌∙◌, append-nil, length-append, arith}
 use Rattle.std.specs.List.{AllByRecursion, flat_map}
 use Rattle.std.proofs.lemmas.Bool.{ltb-false, ltb-true, le-ltb}
 use Rattle.std.proofs.lemmas.Grind.{flat_map-append}
 use Rattle.std.proofs.lemmas.List.Sums.{sum_by-append, sum_by-cons}
+use Rattle.base_laws.proofs.ListLaws.{all-append, all-map}
 use Rattle.tree_model.specs.declared.entry.Pair.{Pair}
 use Rattle.tree_model.specs.declared.entry.Placed.{Placed}
 use Rattle.tree_model.specs.Tree.{Pages, bytes_of, pairs_on, HasNode, AreTrees, IsTree, entries_under, entries_of, root_least}
 use Rattle.tree_model.specs.Range.{is_in_range, in_range, pairs_of}
 use Rattle.tree_model.proofs.RangeLemmas.{in_range-append}
-
--- a fact on each item from another
-pub AllByRecursion-map : {X : Type 0} (P Q : X → Type 0) → ((x : X) → P x → Q x) → (xs : List X) → AllByRecursion P xs → AllByRecursion Q xs
-AllByRecursion-map P Q step [] each = tt
-AllByRecursion-map P Q step (x ∷ xs) each = (step x each.0, AllByRecursion-map P Q step xs each.1)
-
-pub AllByRecursion-append : {X : Type 0} (P : X → Type 0) (xs ys : List X) → AllByRecursion P xs → AllByRecursion P ys → AllByRecursion P (xs ++ ys)
-AllByRecursion-append P [] ys xs_all ys_all = ys_all
-AllByRecursion-append P (x ∷ xs) ys xs_all ys_all = (xs_all.0, AllByRecursion-append P xs ys xs_all.1 ys_all)
 
 -- the bytes of a list of pairs
 pub bytes_of-cons : (p : Pair) (ps : List Pair) → bytes_of (p ∷ ps) ≡ p.bytes + bytes_of ps
@@ -46,11 +39,13 @@ pub under-node : (at : Pages) (height : ℕ) (p : Pair) → under at (suc height
 under-node at height p = append-nil (entries_under at height (pairs_on at p.page))
 
 -- each part of a list of trees is one
-pub AreTrees-first : (at : Pages) (half height : ℕ) (p : Pair) (ps : List Pair) → AreTrees at half height (p ∷ ps) → AreTrees at half height (p ∷ [])
+pub AreTrees-first : (at : Pages) (half height : ℕ) (p : Pair) (ps : List Pair) → AreTrees at half height (p ∷ ps)
+    → AreTrees at half height (p ∷ [])
 AreTrees-first at half zero p ps trees = tt
 AreTrees-first at half (suc height) p ps trees = (trees.0, tt)
 
-pub AreTrees-rest : (at : Pages) (half height : ℕ) (p : Pair) (ps : List Pair) → AreTrees at half height (p ∷ ps) → AreTrees at half height ps
+pub AreTrees-rest : (at : Pages) (half height : ℕ) (p : Pair) (ps : List Pair) → AreTrees at half height (p ∷ ps)
+    → AreTrees at half height ps
 AreTrees-rest at half zero p ps trees = tt
 AreTrees-rest at half (suc height) p ps trees = trees.1
 
@@ -58,9 +53,10 @@ pub AreTrees-nil : (at : Pages) (half height : ℕ) → AreTrees at half height 
 AreTrees-nil at half zero = tt
 AreTrees-nil at half (suc height) = tt
 
-pub AreTrees-append : (at : Pages) (half height : ℕ) (xs ys : List Pair) → AreTrees at half height xs → AreTrees at half height ys → AreTrees at half height (xs ++ ys)
+pub AreTrees-append : (at : Pages) (half height : ℕ) (xs ys : List Pair) → AreTrees at half height xs → AreTrees at half height ys
+    → AreTrees at half height (xs ++ ys)
 AreTrees-append at half zero xs ys first second = tt
-AreTrees-append at half (suc height) xs ys first second = AllByRecursion-append _ xs ys first second
+AreTrees-append at half (suc height) xs ys first second = all-append _ xs ys first second
 
 -- a node may be asked for less
 HasNode-least : (at : Pages) (page level least bytes : ℕ) → HasNode at page level least bytes → HasNode at page level 0 bytes
@@ -69,7 +65,7 @@ HasNode-least at page level least bytes h = record { held = h.held; is_level = h
 -- trees whatever their nodes' fill
 pub AreTrees-least : (at : Pages) (half height : ℕ) (pairs : List Pair) → AreTrees at half height pairs → AreTrees at 0 height pairs
 AreTrees-least at half zero pairs trees = tt
-AreTrees-least at half (suc height) pairs trees = AllByRecursion-map
+AreTrees-least at half (suc height) pairs trees = all-map
     (λ (p : Pair). HasNode at p.page (suc height) half p.bytes × AreTrees at half height (pairs_on at p.page))
     (λ (p : Pair). HasNode at p.page (suc height) 0 p.bytes × AreTrees at 0 height (pairs_on at p.page))
     (λ p here. (HasNode-least at p.page (suc height) half p.bytes here.0, AreTrees-least at half height (pairs_on at p.page) here.1))
@@ -78,8 +74,13 @@ AreTrees-least at half (suc height) pairs trees = AllByRecursion-map
 -- a tree is one pair, that of its root
 pub AreTrees-root : (at : Pages) (half height page bytes : ℕ) → IsTree at half (suc height) page bytes
     → AreTrees at 0 (suc height) (record { bytes = bytes; page = page } ∷ [])
-AreTrees-root at half height page bytes tree =
-    ((HasNode-least at page (suc height) (root_least (suc height)) bytes tree.0, AreTrees-least at half height (pairs_on at page) tree.1), tt)
+AreTrees-root at half height page bytes tree = (
+  (
+    HasNode-least at page (suc height) (root_least (suc height)) bytes tree.0,
+    AreTrees-least at half height (pairs_on at page) tree.1,
+  ),
+  tt,
+)
 
 pub under-root : (at : Pages) (height page bytes : ℕ)
     → under at (suc height) (record { bytes = bytes; page = page }) ≡ entries_of at (suc height) page
@@ -102,7 +103,7 @@ pub bytes_of-entries_under : (at : Pages) (half height : ℕ) (pairs : List Pair
 bytes_of-entries_under at half zero pairs trees = refl
 bytes_of-entries_under at half (suc height) pairs trees =
     bytes_of-flat_map (λ (p : Pair). entries_under at height (pairs_on at p.page)) pairs
-    (AllByRecursion-map
+    (all-map
     (λ (p : Pair). HasNode at p.page (suc height) half p.bytes × AreTrees at half height (pairs_on at p.page))
     (λ (p : Pair). bytes_of (entries_under at height (pairs_on at p.page)) ≡ p.bytes)
     (λ p here. bytes_of-entries_under at half height (pairs_on at p.page) here.1 ∙ here.0.counted)
@@ -115,7 +116,8 @@ abbrev pub at_start : ℕ → Pair → Placed
 at_start start p = record { start = start; pair = p }
 
 -- outside of the range nothing is found
-pub in_range-nothing : (from to start : ℕ) (xs : List Pair) → min to (start + bytes_of xs) ≤ max from start → in_range from to start xs ≡ []
+pub in_range-nothing : (from to start : ℕ) (xs : List Pair) → min to (start + bytes_of xs) ≤ max from start
+    → in_range from to start xs ≡ []
 in_range-nothing from to start [] apart = refl
 in_range-nothing from to start (x ∷ xs) apart =
     let parts = bytes_of-cons x xs in
@@ -125,11 +127,13 @@ in_range-nothing from to start (x ∷ xs) apart =
     rw out rest
 
 -- in the range something is found
-pub in_range-some : (from to start : ℕ) (xs : List Pair) → max from start < min to (start + bytes_of xs) → 1 ≤ length (in_range from to start xs)
+pub in_range-some : (from to start : ℕ) (xs : List Pair) → max from start < min to (start + bytes_of xs)
+    → 1 ≤ length (in_range from to start xs)
 in_range-some from to start [] meet = absurd (omega arith)
 in_range-some from to start (x ∷ xs) meet =
     let parts = bytes_of-cons x xs in
-    (elim (is_in_range from to (at_start start x)) as (λ b. is_in_range from to (at_start start x) ≡ b → 1 ≤ length (in_range from to start (x ∷ xs))) [
+    (elim (is_in_range from to (at_start start x)) as (λ b. is_in_range from to (at_start start x) ≡ b
+    → 1 ≤ length (in_range from to start (x ∷ xs))) [
       | true ↦ λ e. rw e (omega arith)
       | false ↦ λ e.
           let before = ltb-false (max from start) (min to (start + x.bytes)) e in
@@ -138,9 +142,10 @@ in_range-some from to start (x ∷ xs) meet =
 
 -- what a range meets of the entries under placed pairs
 abbrev pub found : Pages → ℕ → ℕ → ℕ → List Placed → List Placed
-found at height from to segments = flat_map (λ s. in_range from to s.start (under at height s.pair)) segments
+found at height from to nodes = flat_map (λ s. in_range from to s.start (under at height s.pair)) nodes
 
-pub found-append : (at : Pages) (height from to : ℕ) (xs ys : List Placed) → found at height from to (xs ++ ys) ≡ found at height from to xs ++ found at height from to ys
+pub found-append : (at : Pages) (height from to : ℕ) (xs ys : List Placed)
+    → found at height from to (xs ++ ys) ≡ found at height from to xs ++ found at height from to ys
 found-append at height from to xs ys = flat_map-append (λ (s : Placed). in_range from to s.start (under at height s.pair)) xs ys
 
 -- the pairs that the range meets lead to all entries that it meets
@@ -150,7 +155,9 @@ found-node at half height from to start [] trees = rw (entries_under-nil at heig
 found-node at half height from to start (n ∷ ns) trees =
     let first = AreTrees-first at half height n ns trees in
     let sum = bytes_of-under at half height n first in
-    let split : in_range from to start (entries_under at height (n ∷ ns)) ≡ in_range from to start (under at height n) ++ in_range from to (start + n.bytes) (entries_under at height ns) =
+    let split : in_range from to start (entries_under at height (n ∷ ns))
+    ≡ in_range from to start (under at height n) ++ in_range from to (start + n.bytes)
+    (entries_under at height ns) =
     ap (in_range from to start) (entries_under-append at height (n ∷ []) ns)
     ∙ in_range-append from to start (under at height n) (entries_under at height ns)
     ∙ ap (λ (b : ℕ). in_range from to start (under at height n) ++ in_range from to (start + b) (entries_under at height ns)) sum in
@@ -186,28 +193,32 @@ found-entries at from to (s ∷ ss) each =
 pub in_range-each : (from to start : ℕ) (xs : List Pair) → AllByRecursion (λ s. is_in_range from to s ≡ true) (in_range from to start xs)
 in_range-each from to start [] = tt
 in_range-each from to start (x ∷ xs) =
-    (elim (is_in_range from to (at_start start x)) as (λ b. is_in_range from to (at_start start x) ≡ b → AllByRecursion (λ s. is_in_range from to s ≡ true) (in_range from to start (x ∷ xs))) [
+    (elim (is_in_range from to (at_start start x)) as (λ b. is_in_range from to (at_start start x) ≡ b
+    → AllByRecursion (λ s. is_in_range from to s ≡ true) (in_range from to start (x ∷ xs))) [
       | true ↦ λ e. rw e (e, in_range-each from to (start + x.bytes) xs)
       | false ↦ λ e. rw e (in_range-each from to (start + x.bytes) xs)
     ]) refl
 
 -- a fact on each pair is one on each that the range meets
-pub AllByRecursion-in_range : (P : Pair → Type 0) (from to start : ℕ) (xs : List Pair) → AllByRecursion P xs → AllByRecursion P (pairs_of (in_range from to start xs))
+pub AllByRecursion-in_range : (P : Pair → Type 0) (from to start : ℕ) (xs : List Pair) → AllByRecursion P xs
+    → AllByRecursion P (pairs_of (in_range from to start xs))
 AllByRecursion-in_range P from to start [] each = tt
 AllByRecursion-in_range P from to start (x ∷ xs) each =
-    (elim (is_in_range from to (at_start start x)) as (λ b. is_in_range from to (at_start start x) ≡ b → AllByRecursion P (pairs_of (in_range from to start (x ∷ xs)))) [
+    (elim (is_in_range from to (at_start start x)) as (λ b. is_in_range from to (at_start start x) ≡ b
+    → AllByRecursion P (pairs_of (in_range from to start (x ∷ xs)))) [
       | true ↦ λ e. rw e (each.0, AllByRecursion-in_range P from to (start + x.bytes) xs each.1)
       | false ↦ λ e. rw e (AllByRecursion-in_range P from to (start + x.bytes) xs each.1)
     ]) refl
 
-pub AreTrees-in_range : (at : Pages) (half height from to start : ℕ) (xs : List Pair) → AreTrees at half height xs → AreTrees at half height (pairs_of (in_range from to start xs))
+pub AreTrees-in_range : (at : Pages) (half height from to start : ℕ) (xs : List Pair) → AreTrees at half height xs
+    → AreTrees at half height (pairs_of (in_range from to start xs))
 AreTrees-in_range at half zero from to start xs trees = tt
 AreTrees-in_range at half (suc height) from to start xs trees = AllByRecursion-in_range _ from to start xs trees
 
 -- each placed pair that the range meets leads to an entry at least
-pub length-found : (at : Pages) (half height from to : ℕ) (segments : List Placed)
-    → AllByRecursion (λ s. is_in_range from to s ≡ true) segments → AreTrees at half height (pairs_of segments)
-    → length segments ≤ length (found at height from to segments)
+pub length-found : (at : Pages) (half height from to : ℕ) (nodes : List Placed)
+    → AllByRecursion (λ s. is_in_range from to s ≡ true) nodes → AreTrees at half height (pairs_of nodes)
+    → length nodes ≤ length (found at height from to nodes)
 length-found at half height from to [] each trees = omega arith
 length-found at half height from to (s ∷ ss) each trees =
     let sum = bytes_of-under at half height s.pair (AreTrees-first at half height s.pair (pairs_of ss) trees) in

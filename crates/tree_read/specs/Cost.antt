@@ -1,7 +1,7 @@
 -- The nodes that a search in a range reads, and those that cost no page.
 use Rattle.std.specs.Prelude.{◌≡◌, ℕ, zero, suc, List, [], ◌++◌, IsSome}
 use Rattle.std.specs.List.{AllByRecursion, flat_map}
-use Rattle.page_port.specs.Counts.{Meter}
+use Rattle.fault_count.specs.Counts.{Meter}
 use Rattle.page_cache.specs.Kept.{KeptNodes, KeepsSame, kept}
 use Rattle.tree_model.specs.declared.entry.Placed.{Placed}
 use Rattle.tree_model.specs.Tree.{Pages, pairs_on}
@@ -14,7 +14,8 @@ below at from to nodes = flat_map (λ s. in_range from to s.start (pairs_on at s
 -- all nodes with a byte in the range, level by level, from those given down `height` levels
 abbrev pub nodes_in_range : Pages → ℕ → ℕ → ℕ → List Placed → List Placed
 nodes_in_range at from to zero nodes = []
-nodes_in_range at from to (suc height) nodes = nodes ++ nodes_in_range at from to height (below at from to nodes)
+nodes_in_range at from to (suc height) nodes =
+    nodes ++ nodes_in_range at from to height (below at from to nodes)
 
 -- the cache keeps each of these nodes
 abbrev pub AreKept : KeptNodes → List Placed → Type 0

@@ -7,8 +7,8 @@ ghost use Rattle.tree_model.specs.Range.{in_range};
 use node_codec::{Pair, Placed};
 use std::alloc::AllocError;
 
-/// Adds those pairs of a node that have a byte from `from` on and before `to`, each with its place. The
-/// node's first byte stands at `start`.
+/// Adds those pairs of a node that have a byte from `from` on and before `to`, each with its place.
+/// The node's first byte stands at `start`.
 pub fn push_children(
     pairs: &[Pair],
     start: u64,

@@ -1,8 +1,8 @@
 //! Search in the tree of an object: the segment that has a byte, and the segments of a range.
 //!
-//! A search reads each node that it needs once, and none that the cache keeps. Where the device doesn't
-//! tell what its pages hold, a page that isn't the node it should be is counted as a fault, and the cache
-//! doesn't keep it.
+//! A search reads each node that it needs once, and none that the cache keeps. Where the device
+//! doesn't tell what its pages hold, a page that isn't the node it should be is counted as a fault,
+//! and the cache doesn't keep it.
 #![tactic(auto)]
 
 mod children;

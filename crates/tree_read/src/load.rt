@@ -1,15 +1,14 @@
 //! One node: from the cache or from its page, and checked against the pair that names it.
 
-ghost use Rattle.std.specs.Prelude.{◌≡◌, ℕ, ◌+◌, ◌^◌, ◌<◌, ◌≤◌, ◌↔◌, Bool, length, IsTrue, IsErr, IsSome, SomeIff, OnOk, OnErr};
-ghost use Rattle.geometry_model.specs.Numbers.{is_page_size};
-ghost use Rattle.page_port.specs.Counts.{HasCause, Meter};
+ghost use Rattle.std.specs.Prelude.{◌≡◌, ℕ, ◌+◌, ◌^◌, ◌<◌, ◌≤◌, ◌↔◌, Bool, length, IsTrue, IsErr};
+ghost use Rattle.std.specs.Prelude.{IsSome, SomeIff, OnOk, OnErr};
+ghost use Rattle.fault_count.specs.Counts.{HasCause, Reads};
 ghost use Rattle.tree_model.specs.Node.{HoldsNode, NodeBytes, room_of};
 ghost use Rattle.tree_model.specs.Tree.{HasNode, bytes_of, pairs_on};
 ghost use Rattle.page_cache.specs.Kept.{kept, KeepsSame};
-ghost use Rattle.tree_read.specs.Cost.{CostsNothing};
 ghost use Rattle.tree_read.specs.Scratch.{IsPrepared};
-ghost use Rattle.span_store.specs.Held.{AllSized, bytes_on};
-ghost use Rattle.tree_read.specs.Search.{KeepsNodes, Reads};
+ghost use Rattle.span_store.specs.Held.{bytes_on};
+ghost use Rattle.tree_read.specs.Search.{ArePages, AsksSearch, Visits};
 
 use crate::page::{has_page, read_page};
 use crate::scratch::Scratch;
@@ -18,9 +17,9 @@ use page_cache::Cache;
 use page_port::{DeviceFault, Port};
 use span_store::Holdings;
 
-/// Reads the node of this level that a pair names, from the cache or else from the device, and checks that
-/// it has just the pair's bytes. The cache keeps it for the next time once it is checked, so that a page
-/// that was read wrongly is read anew.
+/// Reads the node of this level that a pair names, from the cache or else from the device, and
+/// checks that it has just the pair's bytes. The cache keeps it for the next time once it is
+/// checked, so that a page that was read wrongly is read anew.
 pub fn load<P: Port>(
     held: &Holdings<P::S>,
     cache: &mut Cache,
@@ -29,26 +28,23 @@ pub fn load<P: Port>(
     pair: Pair,
     scratch: &mut Scratch,
 ) -> Result<(), DeviceFault>
-    requires page_size { IsTrue (is_page_size (P.meter port.old).page) }
-    requires sized { AllSized P.S.tells (P.meter port.old).page held.now }
+    requires asks { AsksSearch P.S.tells (P.meter port.old).page held.now cache.old
+        (HasNode (bytes_on held.now) pair.page level 0 pair.bytes) }
     requires prepared { IsPrepared (P.meter port.old).page scratch.old }
-    requires kept { KeepsNodes P.S.tells (P.meter port.old).page (bytes_on held.now) cache.old }
-    requires told { IsTrue P.S.tells → HasNode (bytes_on held.now) pair.page level 0 pair.bytes }
     ensures sum { OnOk result (bytes_of scratch.new.node.pairs.items ≡ pair.bytes) }
     ensures told { OnOk result (IsTrue P.S.tells
         → scratch.new.node.pairs.items ≡ pairs_on (bytes_on held.now) pair.page) }
     ensures prepared { IsPrepared (P.meter port.old).page scratch.new }
-    ensures kept { KeepsNodes P.S.tells (P.meter port.old).page (bytes_on held.now) cache.new }
     ensures unchanged { OnErr result (KeepsSame cache.old cache.new) }
-    ensures reads { Reads 1 (P.meter port.old) (P.meter port.new) }
-    ensures cached { IsSome (kept cache.old pair.page)
-        → CostsNothing cache.old cache.new (P.meter port.old) (P.meter port.new) }
+    ensures visits { Visits P.S.tells (P.meter port.old).page (bytes_on held.now) 1
+        (IsSome (kept cache.old pair.page)) cache.old cache.new (P.meter port.old)
+        (P.meter port.new) }
     ensures cause { HasCause (P.meter port.old).faults (P.meter port.new).faults (IsErr result) }
 {
     if cache.get(pair.page, &mut scratch.node) {
         return check(port, &scratch.node, level, pair.bytes);
     }
-    fetch(held, port, pair.page, &mut scratch.page, &mut scratch.node)?;
+    fetch(held, port, pair.page, scratch)?;
     check(port, &scratch.node, level, pair.bytes)?;
     cache.keep(pair.page, &scratch.node);
     Ok(())
@@ -69,23 +65,21 @@ fn check<P: Port>(port: &mut P, node: &Node, level: u8, bytes: u64) -> Result<()
     Err(DeviceFault)
 }
 
-/// Reads the node on a page from the device, by way of `bytes`, which has room for the page.
+/// Reads the node on a page from the device.
 fn fetch<P: Port>(
     held: &Holdings<P::S>,
     port: &mut P,
     page: u32,
-    bytes: &mut [u8],
-    node: &mut Node,
+    scratch: &mut Scratch,
 ) -> Result<(), DeviceFault>
-    requires page_size { IsTrue (is_page_size (P.meter port.old).page) }
-    requires sized { AllSized P.S.tells (P.meter port.old).page held.now }
-    requires whole { length bytes.old ≡ (P.meter port.old).page }
-    requires room { room_of (P.meter port.old).page ≤ node.old.pairs.room }
+    requires pages { ArePages P.S.tells (P.meter port.old).page held.now }
+    requires prepared { IsPrepared (P.meter port.old).page scratch.old }
     requires told { IsTrue P.S.tells → HoldsNode (bytes_on held.now page) }
-    ensures told { OnOk result (IsTrue P.S.tells
-        → NodeBytes (bytes_on held.now page) node.new.level node.new.pairs.items) }
-    ensures small { OnOk result (length node.new.pairs.items ≤ room_of (P.meter port.old).page) }
-    ensures room { node.new.pairs.room ≡ node.old.pairs.room }
+    ensures told { OnOk result (IsTrue P.S.tells → NodeBytes (bytes_on held.now page)
+        scratch.new.node.level scratch.new.node.pairs.items) }
+    ensures small { OnOk result
+        (length scratch.new.node.pairs.items ≤ room_of (P.meter port.old).page) }
+    ensures prepared { IsPrepared (P.meter port.old).page scratch.new }
     ensures reads { Reads 1 (P.meter port.old) (P.meter port.new) }
     ensures cause { HasCause (P.meter port.old).faults (P.meter port.new).faults (IsErr result) }
 {
@@ -93,8 +87,8 @@ fn fetch<P: Port>(
         port.blame();
         return Err(DeviceFault);
     }
-    read_page(held, port, page, bytes)?;
-    if decode(bytes, node).is_ok() {
+    read_page(held, port, page, &mut scratch.page)?;
+    if decode(&scratch.page, &mut scratch.node).is_ok() {
         return Ok(());
     }
     port.blame();

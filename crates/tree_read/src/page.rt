@@ -1,10 +1,9 @@
 //! One page of the holdings: whether it is held, and what stands on it.
 
 ghost use Rattle.std.specs.Prelude.{◌≡◌, length, IsTrue, IsErr, OnOk};
-ghost use Rattle.geometry_model.specs.Numbers.{is_page_size};
-ghost use Rattle.page_port.specs.Counts.{HasCause};
-ghost use Rattle.span_store.specs.Held.{AllSized, bytes_on, has};
-ghost use Rattle.tree_read.specs.Search.{Reads};
+ghost use Rattle.fault_count.specs.Counts.{HasCause, Reads};
+ghost use Rattle.span_store.specs.Held.{bytes_on, has};
+ghost use Rattle.tree_read.specs.Search.{ArePages};
 
 use page_port::{DeviceFault, Port, Span};
 use span_store::Holdings;
@@ -23,10 +22,9 @@ pub fn read_page<P: Port>(
     page: u32,
     out: &mut [u8],
 ) -> Result<(), DeviceFault>
-    requires page_size { IsTrue (is_page_size (P.meter port.old).page) }
+    requires pages { ArePages P.S.tells (P.meter port.old).page held.now }
     requires whole { length out.old ≡ (P.meter port.old).page }
     requires held { IsTrue (has held.now page) }
-    requires sized { AllSized P.S.tells (P.meter port.old).page held.now }
     ensures bytes { OnOk result (IsTrue P.S.tells → out.new ≡ bytes_on held.now page) }
     ensures reads { Reads 1 (P.meter port.old) (P.meter port.new) }
     ensures cause { HasCause (P.meter port.old).faults (P.meter port.new).faults (IsErr result) }

@@ -1,20 +1,19 @@
 //! The segment that has one byte: one node a level, from the root down.
 
-ghost use Rattle.std.specs.Prelude.{◌≡◌, ◌+◌, ◌/◌, ◌<◌, ◌≤◌, [], ◌∷◌, IsTrue, IfOk};
-ghost use Rattle.geometry_model.specs.Numbers.{is_page_size};
-ghost use Rattle.page_port.specs.Counts.{HasCause};
+ghost use Rattle.std.specs.Prelude.{◌≡◌, ◌+◌, ◌/◌, ◌<◌, [], ◌∷◌, IsTrue, IfOk};
+ghost use Rattle.fault_count.specs.Counts.{HasCause};
 ghost use Rattle.tree_model.specs.Node.{room_of};
 ghost use Rattle.tree_model.specs.Tree.{IsTree, entries_of};
 ghost use Rattle.tree_model.specs.Range.{in_range};
-ghost use Rattle.span_store.specs.Held.{AllSized, bytes_on};
+ghost use Rattle.span_store.specs.Held.{bytes_on};
 ghost use Rattle.tree_read.specs.Cost.{AreKept, nodes_in_range};
-ghost use Rattle.tree_read.specs.Search.{KeepsNodes, Reads, top};
+ghost use Rattle.tree_read.specs.Search.{AsksSearch, HasByte, Visits, top};
 
 use crate::children::child_at;
 use crate::failure::TreeFail;
 use crate::load::load;
 use crate::scratch::Scratch;
-use crate::start::root_segment;
+use crate::start::root_pair;
 use node_codec::Placed;
 use page_cache::Cache;
 use page_port::Port;
@@ -33,7 +32,7 @@ pub fn length(root: &Root) -> u64
 ///
 /// # Errors
 /// `Fault` where the device failed or gave a page that isn't the node that was written: the port's count
-/// of faults rose. `Memory` where there was no memory.
+/// of faults rose. `Memory` where there was no memory: the device didn't fail.
 pub fn find<P: Port>(
     alloc: Global,
     root: &Root,
@@ -43,29 +42,27 @@ pub fn find<P: Port>(
     at: u64,
 ) -> Result<Placed, TreeFail>
     requires inside { at < root.now.length }
-    requires page_size { IsTrue (is_page_size (P.meter port.old).page) }
-    requires sized { AllSized P.S.tells (P.meter port.old).page held.now }
-    requires kept { KeepsNodes P.S.tells (P.meter port.old).page (bytes_on held.now) cache.old }
-    requires told { IsTrue P.S.tells → IsTree (bytes_on held.now)
-        (room_of (P.meter port.old).page / 2) root.now.height root.now.page root.now.length }
+    requires asks { AsksSearch P.S.tells (P.meter port.old).page held.now cache.old
+        (IsTree (bytes_on held.now) (room_of (P.meter port.old).page / 2) root.now.height
+        root.now.page root.now.length) }
     ensures told { IfOk result (λ segment. IsTrue P.S.tells
-        → in_range at (at + 1) 0 (entries_of (bytes_on held.now) root.now.height root.now.page) ≡ segment ∷ []) }
-    ensures kept { KeepsNodes P.S.tells (P.meter port.old).page (bytes_on held.now) cache.new }
-    ensures reads { Reads root.now.height (P.meter port.old) (P.meter port.new) }
-    ensures cached { IsTrue P.S.tells
-        → AreKept cache.old (nodes_in_range (bytes_on held.now) at (at + 1) root.now.height
-        (top root.now at (at + 1)))
-        → (P.meter port.new).read ≡ (P.meter port.old).read }
+        → in_range at (at + 1) 0 (entries_of (bytes_on held.now) root.now.height root.now.page)
+        ≡ segment ∷ []) }
+    ensures holds { IfOk result (HasByte at) }
+    ensures visits { Visits P.S.tells (P.meter port.old).page (bytes_on held.now)
+        root.now.height (IsTrue P.S.tells × AreKept cache.old (nodes_in_range (bytes_on held.now)
+        at (at + 1) root.now.height (top root.now at (at + 1)))) cache.old cache.new
+        (P.meter port.old) (P.meter port.new) }
     ensures cause { HasCause (P.meter port.old).faults (P.meter port.new).faults
         (result ≡ Err TreeFail.Fault) }
 {
     let mut scratch = Scratch::new(alloc, port.page())?;
-    let mut segment = root_segment(*root);
+    let mut child = root_pair(*root);
     let mut level = root.height;
     while level > 0 {
-        load(held, cache, port, level, segment.pair, &mut scratch)?;
-        segment = child_at(scratch.node.pairs.as_slice(), segment.start, at);
+        load(held, cache, port, level, child.pair, &mut scratch)?;
+        child = child_at(scratch.node.pairs.as_slice(), child.start, at);
         level -= 1;
     }
-    Ok(segment)
+    Ok(child)
 }

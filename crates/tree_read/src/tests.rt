@@ -1,5 +1,6 @@
-//! Trees on pages: the worked search of two nodes, every range of a small tree of three levels against
-//! the plain list of its entries, what a second search costs, and a page that isn't its node.
+//! Trees on pages: the worked search of two nodes, every range of a small tree of three levels
+//! against the plain list of its entries, what a second search costs, and a page that isn't its
+//! node.
 
 mod quiet;
 
@@ -102,8 +103,8 @@ fn two_nodes(port: &mut QuietPort) -> Root {
     }
 }
 
-/// Eighteen entries of 2 bytes, on the pages from 100 on: three of them in each of six nodes, three of
-/// these in each of two, and a root of level 3.
+/// Eighteen entries of 2 bytes, on the pages from 100 on: three of them in each of six nodes, three
+/// of these in each of two, and a root of level 3.
 fn three_levels(port: &mut QuietPort) -> Root {
     for i in 0..6u8 {
         put_node(port, i as usize, 1, 3, 2, 100 + 3 * i);

@@ -2,14 +2,7 @@
 use Rattle.std.proofs.Common.{◌≡◌, ◌≢◌, ℕ, zero, suc, ◌+◌, ◌<◌, Bool, true, false, refl, ap, ◌∙◌, arith, inl, inr}
 use Rattle.std.proofs.lemmas.Bool.{cases_eq}
 use Rattle.history.specs.Holding.{count_below}
-
--- two tests that agree below n have one count
-pub count_below-same : (n : ℕ) (p q : ℕ → Bool) → ((k : ℕ) → k < n → p k ≡ q k) → count_below n p ≡ count_below n q
-count_below-same zero p q same = refl
-count_below-same (suc n) p q same =
-    let here : p n ≡ q n = same n (omega arith) in
-    let below : count_below n p ≡ count_below n q = count_below-same n p q (λ k h. same k (omega arith)) in
-    cc
+use Rattle.machine.proofs.Counting.{count_below-agree}
 
 -- nothing is counted where the test fails everywhere
 pub count_below-none : (n : ℕ) (p : ℕ → Bool) → ((k : ℕ) → k < n → p k ≡ false) → count_below n p ≡ 0
@@ -20,11 +13,12 @@ count_below-none (suc n) p none =
     rw (here, below) refl
 
 -- a test that is true at one number more counts one more
-pub count_below-more : (n o : ℕ) (p q : ℕ → Bool) → o < n → p o ≡ false → q o ≡ true → ((k : ℕ) → k ≢ o → p k ≡ q k) → count_below n q ≡ count_below n p + 1
+pub count_below-more : (n o : ℕ) (p q : ℕ → Bool) → o < n → p o ≡ false → q o ≡ true →
+    ((k : ℕ) → k ≢ o → p k ≡ q k) → count_below n q ≡ count_below n p + 1
 count_below-more zero o p q within not_yet now same = absurd (omega arith)
 count_below-more (suc n) o p q within not_yet now same = elim (cases_eq n o) [
   | inl here ↦
-      let last : count_below n p ≡ count_below n q = count_below-same n p q (λ k h. same k (omega arith)) in
+      let last : count_below n p ≡ count_below n q = count_below-agree n p q (λ k h. same k (omega arith)) in
       let yes_here : q n ≡ true = ap q here ∙ now in
       let no_here : p n ≡ false = ap p here ∙ not_yet in
       rw (yes_here, no_here, last) (omega arith)

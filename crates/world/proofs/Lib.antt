@@ -14,3 +14,4 @@ pub mod Taking
 pub mod Tied
 pub mod Viewed
 pub mod Working
+pub mod Wanting

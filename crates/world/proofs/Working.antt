@@ -1,31 +1,30 @@
 -- A held object that an edit leaves alone, and one that it changes.
-use Rattle.std.proofs.Common.{◌≡◌, ℕ, Bool, true, false, length, nat_le, ◌+◌, Ok, Err, Result, IsSome, if◌then◌else◌, refl, ap, sym, ◌∙◌, subst}
+use Rattle.std.proofs.Common.{◌≡◌, ℕ, true, false, Ok, Err, Result, IsSome, refl, ap, sym, ◌∙◌, subst}
 use Rattle.std.specs.Prelude.{OnOk, IsErr, ◌↔◌}
 use Rattle.std.specs.Option.{option_map_or}
 use Rattle.std.proofs.lemmas.Bool.{false≢true}
+use Rattle.base_laws.proofs.OptionLaws.{some-if}
 use Rattle.eos_ops.specs.declared.edit.Edit.{Edit}
-use Rattle.eos_ops.specs.declared.edit.Edit.TheVariants.{Create, Destroy, Append, Insert, Delete, Replace}
 use Rattle.eos_ops.specs.declared.outcome.Outcome.TheVariants.{Done}
 use Rattle.eos_ops.specs.declared.outcome.Outcome.TheVariants as outcome
-use Rattle.eos_ops.specs.declared.plain.Plain.{Plain}
-use Rattle.eos_ops.specs.declared.plain.Plain.TheVariants.{Absent, Present}
+use Rattle.eos_ops.specs.declared.plain.Plain.TheVariants.{Absent}
 use Rattle.eos_ops.specs.declared.reply.Reply.TheVariants as reply
 use Rattle.eos_ops.specs.Edits.{outcome_in, edited}
 use Rattle.eos_ops.specs.Objects.{reply_of}
+use Rattle.eos_ops.proofs.EditLemmas.{edited-refused}
 use Rattle.shadow_txn.specs.declared.fails.TxnFail.{TxnFail}
 use Rattle.shadow_txn.specs.declared.fails.TxnFail.TheVariants.{Exists, Missing, Range, Fault, NoSpace, Memory}
-use Rattle.shadow_txn.specs.Held.{object_in}
+use Rattle.shadow_txn.specs.Held.{held_object}
 use Rattle.shadow_txn.specs.Objects.{working_of}
 use Rattle.shadow_txn.specs.Replies.{working_in, fail_reply}
 use Rattle.shadow_txn.specs.Transaction.{holding}
 use Rattle.world.specs.Session.{Session, IsWorked}
 use Rattle.world.proofs.HeldLists.{with_object-same}
-use Rattle.world.proofs.Sights.{some-if}
 
 -- a held object that a command only looks at
-pub worked-same : (o : ℕ) (txn : Session) → IsSome (object_in o txn.held) → IsWorked (working_in o txn.held) o txn txn
+pub worked-same : (o : ℕ) (txn : Session) → IsSome (held_object o txn.held) → IsWorked (working_in o txn.held) o txn txn
 worked-same o txn held =
-    let some = some-if (object_in o txn.held) held in
+    let some = some-if (held_object o txn.held) held in
     record {
       was = some.0;
       now = some.0;
@@ -36,25 +35,6 @@ worked-same o txn held =
       txn = sym (ap (holding txn) (with_object-same o some.0 txn.held some.1));
     }
 
-within-done : (fits : Bool) (x y : Plain) (n : ℕ) → ((if fits then Done else outcome.Range n) ≡ Done → ⊥) → fits ≡ false
-within-done true x y n other = absurd (other refl)
-within-done false x y n other = refl
-
--- an edit that isn't done changes nothing
-edited-refused : (e : Edit) (x : Plain) → (outcome_in e x ≡ Done → ⊥) → edited e x ≡ x
-edited-refused (Create t) Absent other = absurd (other refl)
-edited-refused Destroy Absent other = refl
-edited-refused (Append p) Absent other = refl
-edited-refused (Insert at p) Absent other = refl
-edited-refused (Delete at n) Absent other = refl
-edited-refused (Replace at p) Absent other = refl
-edited-refused (Create t) (Present x) other = refl
-edited-refused Destroy (Present x) other = absurd (other refl)
-edited-refused (Append p) (Present x) other = absurd (other refl)
-edited-refused (Insert at p) (Present x) other = let past = within-done (nat_le at (length x)) Absent Absent (length x) other in rw past refl
-edited-refused (Delete at n) (Present x) other = let past = within-done (nat_le (at + n) (length x)) Absent Absent (length x) other in rw past refl
-edited-refused (Replace at p) (Present x) other = let past = within-done (nat_le (at + length p) (length x)) Absent Absent (length x) other in rw past refl
-
 fail-not_ok : (fail : TxnFail) → fail_reply fail ≡ reply.Ok → ⊥
 fail-not_ok Exists e = cc
 fail-not_ok Missing e = cc
@@ -64,7 +44,9 @@ fail-not_ok (NoSpace n) e = cc
 fail-not_ok Memory e = cc
 
 -- an edit that the object refused leaves it alone
-pub worked-refused : (e : Edit) (o : ℕ) (fail : TxnFail) (txn : Session) → IsSome (object_in o txn.held) → fail_reply fail ≡ reply_of (outcome_in e (working_in o txn.held)) → IsWorked (edited e (working_in o txn.held)) o txn txn
+pub worked-refused : (e : Edit) (o : ℕ) (fail : TxnFail) (txn : Session) → IsSome (held_object o txn.held) →
+    fail_reply fail ≡ reply_of (outcome_in e (working_in o txn.held)) →
+    IsWorked (edited e (working_in o txn.held)) o txn txn
 worked-refused e o fail txn held answer =
     let other : outcome_in e (working_in o txn.held) ≡ Done → ⊥ = λ done. fail-not_ok fail (answer ∙ ap reply_of done) in
     subst (λ x. IsWorked x o txn txn) (sym (edited-refused e (working_in o txn.held) other)) (worked-same o txn held)

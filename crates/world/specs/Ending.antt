@@ -9,6 +9,6 @@ abbrev pub aborted : ℕ → Machine → Machine
 aborted s m = if is_active m s then next m s (Closes false) else m
 
 -- sessions 1 to n do so, one after the other
-unfoldable pub all_aborted : ℕ → Machine → Machine
-all_aborted zero m = m
-all_aborted (suc n) m = aborted (suc n) (all_aborted n m)
+unfoldable pub machine_aborted : ℕ → Machine → Machine
+machine_aborted zero m = m
+machine_aborted (suc n) m = aborted (suc n) (machine_aborted n m)

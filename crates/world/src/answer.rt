@@ -1,9 +1,11 @@
 //! A held object's answer to a command on it.
 
-ghost use Rattle.std.specs.Prelude.{◌≡◌, ◌↔◌, false, IfOk, OnOk, OnErr, IsErr, IsSome};
+ghost use Rattle.std.specs.Prelude.{◌≡◌, ◌↔◌, false, IfOk, OnOk, OnErr, IsOk, IsErr, IsSome};
 ghost use Rattle.eos_ops.specs.Edits.{outcome_in, edited};
-ghost use Rattle.eos_ops.specs.Objects.{is_too_long, length_in, read_in, reply_of, reply_in, after_in};
-ghost use Rattle.shadow_txn.specs.Held.{object_in};
+ghost use Rattle.eos_ops.specs.Memory.{GivesBytes, LeavesBytes, TakesMemory};
+ghost use Rattle.eos_ops.specs.Objects.{is_too_long, length_in, read_in, reply_of, reply_in};
+ghost use Rattle.eos_ops.specs.Objects.{after_in};
+ghost use Rattle.shadow_txn.specs.Held.{held_object};
 ghost use Rattle.shadow_txn.specs.Replies.{working_in, fail_reply};
 ghost use Rattle.world.specs.Session.{IsWorked};
 
@@ -11,8 +13,8 @@ use eos_ops::{Blank, Command, Edit, Reply};
 use shadow_txn::{Txn, TxnFail};
 use std::alloc::{AllocError, Global};
 
-/// Answers a command on object `o`, which the transaction holds, from its working version. An edit changes
-/// that version. Want of memory is no answer: then nothing has changed.
+/// Answers a command on object `o`, which the transaction holds, from its working version. An edit
+/// changes that version. Want of memory is no answer: then nothing has changed.
 #[tactic(auto, unfolding(eos_ops::specs::Objects::reply_in, eos_ops::specs::Objects::after_in))]
 pub fn answer(
     txn: &mut Txn<Blank>,
@@ -21,10 +23,12 @@ pub fn answer(
     command: Command,
 ) -> Result<Reply, AllocError>
     requires short { is_too_long command ≡ false }
-    requires held { IsSome (object_in o txn.old.held) }
+    requires held { IsSome (held_object o txn.old.held) }
     ensures reply { IfOk result (λ reply. reply ≡ reply_in command (working_in o txn.old.held)) }
-    ensures ok { OnOk result (IsWorked (after_in command (working_in o txn.old.held)) o txn.old txn.new) }
+    ensures ok { OnOk result (IsWorked (after_in command (working_in o txn.old.held)) o txn.old
+        txn.new) }
     ensures err { OnErr result (txn.new ≡ txn.old) }
+    ensures memory { OnErr result (TakesMemory command (working_in o txn.old.held)) }
 {
     match command {
         Command::Length { .. } => length_answer(txn, o),
@@ -50,8 +54,9 @@ pub fn answer(
 
 /// The number of bytes.
 fn length_answer(txn: &mut Txn<Blank>, o: u64) -> Result<Reply, AllocError>
-    requires { IsSome (object_in o txn.old.held) }
+    requires { IsSome (held_object o txn.old.held) }
     ensures reply { IfOk result (λ reply. reply ≡ length_in (working_in o txn.old.held)) }
+    ensures always { IsOk result }
     ensures same { txn.new ≡ txn.old }
 {
     match txn.length(o) {
@@ -62,8 +67,9 @@ fn length_answer(txn: &mut Txn<Blank>, o: u64) -> Result<Reply, AllocError>
 
 /// The bytes that are asked for, and no others.
 fn read_answer(txn: &mut Txn<Blank>, o: u64, at: u64, len: u64) -> Result<Reply, AllocError>
-    requires { IsSome (object_in o txn.old.held) }
+    requires { IsSome (held_object o txn.old.held) }
     ensures reply { IfOk result (λ reply. reply ≡ read_in at len (working_in o txn.old.held)) }
+    ensures memory { OnErr result (GivesBytes (read_in at len (working_in o txn.old.held))) }
     ensures same { txn.new ≡ txn.old }
 {
     match txn.read(o, at, len) {
@@ -74,11 +80,13 @@ fn read_answer(txn: &mut Txn<Blank>, o: u64, at: u64, len: u64) -> Result<Reply,
 
 /// What becomes of an edit of the working version.
 fn edit_answer(txn: &mut Txn<Blank>, o: u64, edit: &Edit) -> Result<Reply, AllocError>
-    requires { IsSome (object_in o txn.old.held) }
+    requires { IsSome (held_object o txn.old.held) }
     ensures reply { IfOk result
         (λ reply. reply ≡ reply_of (outcome_in edit.now (working_in o txn.old.held))) }
-    ensures ok { OnOk result (IsWorked (edited edit.now (working_in o txn.old.held)) o txn.old txn.new) }
+    ensures ok { OnOk result (IsWorked (edited edit.now (working_in o txn.old.held)) o txn.old
+        txn.new) }
     ensures err { OnErr result (txn.new ≡ txn.old) }
+    ensures memory { OnErr result (LeavesBytes edit.now (working_in o txn.old.held)) }
 {
     match txn.edit(o, edit) {
         Ok(()) => Ok(Reply::Ok),

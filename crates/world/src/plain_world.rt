@@ -1,15 +1,17 @@
 //! All sessions over plain objects, and what a command does to them.
 
-ghost use Rattle.std.specs.Prelude.{◌≡◌, ℕ, ◌<◌, ◌≤◌, true, false, length, replicate, IfOk, IsSome, if◌then◌else◌};
+ghost use Rattle.std.specs.Prelude.{◌≡◌, ℕ, ◌<◌, ◌≤◌, true, false, length, replicate, IfOk, IsSome};
+ghost use Rattle.std.specs.Prelude.{if◌then◌else◌};
 ghost use Rattle.eos_ops.specs.declared.command.Command.TheVariants.{Begin, Commit, Abort};
 ghost use Rattle.eos_ops.specs.declared.limits.TheConstants.{SESSIONS};
 ghost use Rattle.eos_ops.specs.declared.plain.Plain.TheVariants.{Absent};
-ghost use Rattle.eos_ops.specs.Objects.{object_of as object_of_command, is_too_long as is_too_long_command};
+ghost use Rattle.eos_ops.specs.Objects.{object_of as object_of_command};
+ghost use Rattle.eos_ops.specs.Objects.{is_too_long as is_too_long_command};
 ghost use Rattle.history.specs.Event.{Closes};
 ghost use Rattle.machine.specs.Machine.{AtRest, is_active, database, fresh};
 ghost use Rattle.machine.specs.Next.{next};
 ghost use Rattle.machine.specs.Replies.{IsStep};
-ghost use Rattle.world.specs.Ending.{aborted, all_aborted};
+ghost use Rattle.world.specs.Ending.{aborted, machine_aborted};
 ghost use Rattle.world.specs.Session.{begin_reply};
 
 use crate::ending::end;
@@ -32,13 +34,13 @@ pub struct PlainWorld {
 
 impl Model for PlainWorld {
     ghost use Rattle.machine.specs.Machine.{Machine};
-    ghost use Rattle.world.specs.Ties.{viewed, IsTied};
+    ghost use Rattle.world.specs.Ties.{viewed, ShareObjects};
 
     ghost Value = { Machine };
 
     ghost view = { λ w. viewed w.objects w.sessions.items };
 
-    ghost invariant = { λ w. IsTied w.objects w.sessions.items };
+    ghost invariant = { λ w. ShareObjects w.objects w.sessions.items };
 }
 
 impl PlainWorld {
@@ -152,7 +154,7 @@ impl PlainWorld {
 
     /// Aborts each open transaction, in the order of sessions. It takes no memory.
     pub fn finish(&mut self)
-        ensures state { self.new ≡ all_aborted SESSIONS self.old }
+        ensures state { self.new ≡ machine_aborted SESSIONS self.old }
         ensures rest { AtRest self.new }
         ensures database { database self.new ≡ database self.old }
     {

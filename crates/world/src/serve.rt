@@ -1,10 +1,11 @@
 //! A command on an object, in an open transaction.
 
-ghost use Rattle.std.specs.Prelude.{◌≡◌, ◌↔◌, true, false, Some, None, Err, IsSome, IfErr, OnErr, OnOk, is_some};
+ghost use Rattle.std.specs.Prelude.{◌≡◌, ◌↔◌, true, false, Some, None, Err, IsSome, IfErr, OnErr};
+ghost use Rattle.std.specs.Prelude.{OnOk, is_some};
 ghost use Rattle.eos_ops.specs.Objects.{object_of, is_too_long};
-ghost use Rattle.shadow_txn.specs.Held.{object_in};
+ghost use Rattle.shadow_txn.specs.Held.{held_object};
 ghost use Rattle.world.specs.Served.{IsAnswer};
-ghost use Rattle.world.specs.Session.{IsSound, hold_reply};
+ghost use Rattle.world.specs.Session.{IsSoundSession, hold_reply};
 
 use crate::answer::answer;
 use eos_ops::{Blank, Command, Reply};
@@ -15,8 +16,8 @@ use std::alloc::Global;
 /// The objects of a world, each home or with a session.
 pub type Objects = SoloShelf<PlainObject<Blank>>;
 
-/// Runs a command on object `o`. The transaction holds the object from then on, unless it is refused, or there
-/// is no memory: then nothing has changed.
+/// Runs a command on object `o`. The transaction holds the object from then on, unless it is
+/// refused, or there is no memory: then nothing has changed.
 pub fn serve(
     txn: &mut Txn<Blank>,
     objects: &mut Objects,
@@ -25,7 +26,7 @@ pub fn serve(
     command: Command,
 ) -> Reply
     requires open { txn.old.is_open ≡ true }
-    requires sound { IsSound objects.old txn.old }
+    requires sound { IsSoundSession objects.old txn.old }
     requires short { is_too_long command ≡ false }
     requires object { object_of command ≡ Some o }
     ensures { IsAnswer command o result objects.old txn.old objects.new txn.new }

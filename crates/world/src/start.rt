@@ -31,7 +31,8 @@ pub fn absent_objects(alloc: Global, count: u32) -> Result<Objects, AllocError>
 
 /// The places of all sessions, over so many objects. No transaction is open.
 pub fn idle_sessions(alloc: Global, objects: u32) -> Result<Vec<Txn<Blank>>, AllocError>
-    ensures { IfOk result (λ txns. txns.items ≡ map (first_txn objects) (range_with_len 0 SESSIONS)) }
+    ensures { IfOk result (λ txns. txns.items ≡ map (first_txn objects)
+        (range_with_len 0 SESSIONS)) }
 {
     let mut txns = Vec::with_capacity(alloc, SESSIONS as usize)?;
     for place in 0..SESSIONS {

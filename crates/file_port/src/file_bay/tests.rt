@@ -8,8 +8,8 @@ use page_port::{Bay, Port};
 use std::alloc::AllocError;
 use std::fs;
 
-/// Writes pages 1 and 2, of 256 bytes each, in one call, and reads each in a call of its own through
-/// another port, the second page first.
+/// Writes pages 1 and 2, of 256 bytes each, in one call, and reads each in a call of its own
+/// through another port, the second page first.
 fn moved_pages(
     writer: &mut FilePort,
     reader: &mut FilePort,

@@ -2,7 +2,8 @@
 
 ghost use Rattle.std.specs.Prelude.{◌≡◌, ◌+◌, ◌^◌, ◌<◌, ◌≤◌, [], replicate, false};
 
-use page_port::{DeviceFault, Port, Span, counted};
+use fault_count::counted;
+use page_port::{DeviceFault, Port, Span};
 use std::marker::Model;
 
 /// Pages of the device in a row: their numbers alone.
@@ -74,7 +75,13 @@ pub struct QuietPort {
 impl Port for QuietPort {
     type S = QuietSpan;
 
-    ghost meter = { λ p. record { page = 256; faults = p.faults; read = p.read; written = p.written } };
+    ghost meter = { λ p. record {
+      page = 256;
+      faults = p.faults;
+      read = p.read;
+      written =
+          p.written;
+    } };
 
     fn page(&self) -> u32 {
         256

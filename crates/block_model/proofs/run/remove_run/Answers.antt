@@ -9,6 +9,14 @@ use Rattle.block_model.proofs.run.remove_run.Goals as goal
 pub returns-clause-removed : goal.returns-clause-removed
 returns-clause-removed c =
     let same : c.args.first + c.args.n - c.args.first ≡ c.args.n = omega arith in
-    let written : put_mid c.args.first (c.args.first + c.args.n - c.args.first) c.args.pages.now c.fill.new.self ≡ with_run c.args.pages.now c.args.first c.args.n false = grind (arith, common_steps) in
-    let before : c.count_pages-present.result ≡ count_of (take c.args.n (drop c.args.first c.args.pages.now)) = c.count_pages-present.ensures ∙ ap (λ (k : ℕ). count_of (take k (drop c.args.first c.args.pages.now))) same in
-    omega (arith, ap count_of written, count-with_run c.args.pages.now c.args.first c.args.n false c.requires, count-replicate_false c.args.n)
+    let written : put_mid c.args.first (c.args.first + c.args.n - c.args.first) c.args.pages.now c.fill.new.self
+    ≡ with_run c.args.pages.now c.args.first c.args.n false = grind (arith, common_steps) in
+    let before : c.count_pages-present.result ≡ count_of (take c.args.n (drop c.args.first c.args.pages.now)) =
+    c.count_pages-present.ensures ∙ ap (λ (k : ℕ). count_of (take k (drop c.args.first c.args.pages.now)))
+    same in
+    omega (
+      arith,
+      ap count_of written,
+      count-with_run c.args.pages.now c.args.first c.args.n false c.requires,
+      count-replicate_false c.args.n,
+    )

@@ -18,4 +18,7 @@ returns c =
 pub invariant_of-result : goal.invariant_of-result
 invariant_of-result c =
     let last = c.order_at-order.ensures in
-    record { small = (order_small c.args.pages.now c.in-Some.first c.order_at-order.result c.requires.short (record { number = last.number; begins = last.begins; block = last.block })).1 }
+    record {
+      small = (order_small c.args.pages.now c.in-Some.first c.order_at-order.result c.requires.short
+          (record { number = last.number; begins = last.begins; block = last.block })).1;
+    }

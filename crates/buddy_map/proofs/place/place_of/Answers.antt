@@ -13,7 +13,8 @@ loop-block-smaller c =
 pub loop-block-preserved : goal.loop-block-preserved
 loop-block-preserved c = record {
   cut = rw c.size.ensures c.in-Some.ensures.3;
-  best = rw c.size.ensures (best_more c.args.pages.now c.args.n c.loop-block.from c.loop-block.best c.in-Some.block c.better-best.result c.in-Some.ensures c.loop-block.invariant.best c.better-best.ensures);
+  best = rw c.size.ensures (best_more c.args.pages.now c.args.n c.loop-block.from c.loop-block.best c.in-Some.block
+      c.better-best.result c.in-Some.ensures c.loop-block.invariant.best c.better-best.ensures);
 }
 
 pub returns-in-Some-best : goal.returns-in-Some-best

@@ -9,7 +9,7 @@ invariant-loop-rest g l = record {
   rest : l.rest ≡ drop (length l.bytes - length l.rest) l.bytes;
   front : Appends (take (length l.bytes - length l.rest) l.bytes)
       (g.O.Sink.written l.initial.sink) (g.O.Sink.written l.sink);
-  kept : g.O.Sink.faults l.initial.sink ≤ g.O.Sink.faults l.sink;
+  still : g.O.Sink.faults l.sink ≡ g.O.Sink.faults l.initial.sink;
 }
 
 abbrev pub decreases-loop-rest : goal.decreases-loop-rest

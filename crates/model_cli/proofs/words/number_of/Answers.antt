@@ -8,12 +8,15 @@ use Rattle.model_cli.proofs.words.number_of.Goals as goal
 
 pub returns-then-is_empty : goal.returns-then-is_empty
 returns-then-is_empty c =
-    sym (number_of-empty c.as_bytes-digits.result.now (eqb-true (length c.as_bytes-digits.result.now) 0 (sym c.is_empty.ensures ∙ c.if-is_empty.true))) ∙ ap number_of c.as_bytes-digits.ensures.value
+    sym (number_of-empty c.as_bytes-digits.result.now
+    (eqb-true (length c.as_bytes-digits.result.now) 0 (sym c.is_empty.ensures ∙ c.if-is_empty.true)))
+    ∙ ap number_of c.as_bytes-digits.ensures.value
 
 pub returns-then-not-is_ascii_digit : goal.returns-then-not-is_ascii_digit
 returns-then-not-is_ascii_digit c =
     let other = c.if-not-is_ascii_digit.ensures.cases in
-    sym (number_of-other c.as_bytes-digits.result.now (λ (d : IsInRange 48 57 (get_or c.as_bytes-digits.result.now 0 0)). grind (arith, other)))
+    sym (number_of-other c.as_bytes-digits.result.now
+    (λ (d : IsInRange 48 57 (get_or c.as_bytes-digits.result.now 0 0)). grind (arith, other)))
     ∙ ap number_of c.as_bytes-digits.ensures.value
 
 pub returns-then-has_leading_zero : goal.returns-then-has_leading_zero

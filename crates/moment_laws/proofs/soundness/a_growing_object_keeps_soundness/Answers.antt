@@ -2,4 +2,4 @@ use Rattle.moment_laws.proofs.soundness.a_growing_object_keeps_soundness.Goals a
 use Rattle.moment_laws.proofs.ChangeLemmas.{sound-grown}
 
 pub returns : goal.returns
-returns c = sound-grown
+returns g c = sound-grown g.K.Kind.good

@@ -2,4 +2,4 @@ use Rattle.moment_laws.proofs.soundness.locked_pages_after_a_change.Goals as goa
 use Rattle.moment_laws.proofs.ChangeLemmas.{is_locked-after}
 
 pub returns : goal.returns
-returns c = is_locked-after
+returns g c = is_locked-after g.K.Kind.good

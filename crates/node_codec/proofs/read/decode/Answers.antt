@@ -3,7 +3,8 @@ use Rattle.std.proofs.Common.{length, IsTrue, refl, arith}
 use Rattle.node_codec.proofs.NumberLemmas.{AreBytes}
 use Rattle.node_codec.proofs.ReadLemmas.{NodeBytes-read, NodeBytes-same, IsHead-NodeBytes, each-IsHead, blank-IsHead}
 use Rattle.node_codec.proofs.read.decode.Goals as goal
-use Rattle.node_codec.proofs.read.decode.Goals.{then-not-has_bytes_under_each-via-then-not-has_bytes_under_each, then-not-has_bytes_under_each-via-else-not-has_bytes_under_each+then-not-is_blank_from}
+use Rattle.node_codec.proofs.read.decode.Goals.{then-not-has_bytes_under_each-via-then-not-has_bytes_under_each}
+use Rattle.node_codec.proofs.read.decode.Goals.{then-not-has_bytes_under_each-via-else-not-has_bytes_under_each+then-not-is_blank_from}
 
 pub returns-in_default-clause-only : goal.returns-in_default-clause-only
 returns-in_default-clause-only c = λ level pairs h.

@@ -1,6 +1,5 @@
 -- To be the one used last changes no page's node.
-use Rattle.std.proofs.Common.{◌≡◌, ℕ, nat_eq, IfSome, IsSome, IsTrue, Option, refl, subst, length}
-use Rattle.std.specs.Map.{lookup}
+use Rattle.std.proofs.Common.{IfSome, IsSome, IsTrue, Option, refl, subst}
 use Rattle.node_codec.specs.declared.parsed.Node.{Node}
 use Rattle.page_cache.specs.Kept.{IsNodeOf}
 use Rattle.page_cache.proofs.KeptLemmas.{lookup-promoted, length-promoted}

@@ -1,9 +1,8 @@
 -- A page stands in one entry at most, so the page of the one that is taken out has none.
-use Rattle.std.proofs.Common.{◌≡◌, ℕ, nat_eq, cond, List, refl, sym, ap, ◌∙◌, Bool, true, arith}
-use Rattle.std.specs.Map.{lookup}
+use Rattle.std.proofs.Common.{nat_eq, refl, ◌∙◌}
 use Rattle.std.specs.Cmp.{nat_eq_equiv}
 use Rattle.std.proofs.lemmas.Map.{lookup-remove_entry}
-use Rattle.std.proofs.lemmas.Bool.{eqb-true, eq-eqb}
+use Rattle.std.proofs.lemmas.Bool.{eq-eqb}
 use Rattle.page_cache.proofs.KeptLemmas.{lookup-remove_other, length-removed, eqb-moves}
 use Rattle.page_cache.proofs.kept.take_out.Goals as goal
 

@@ -6,4 +6,5 @@ use Rattle.plain_moment.specs.Testing.{is_in}
 use Rattle.plain_moment.proofs.counting.tests_in.Given as goal
 
 abbrev pub invariant-pages : goal.invariant-pages
-invariant-pages l = l.tests.items ≡ map (λ at. is_in l.locked l.committed l.working (data_page (numbers_of l.store) l.space at)) (range_with_len 0 l.at)
+invariant-pages l = l.tests.items ≡ map (λ at. is_in l.locked l.committed l.working
+    (data_page (numbers_of l.store) l.space at)) (range_with_len 0 l.at)

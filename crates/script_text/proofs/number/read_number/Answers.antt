@@ -6,7 +6,8 @@ use Rattle.script_text.proofs.NumberLemmas.{number_of-bytes, number_of-empty, nu
 use Rattle.script_text.proofs.number.read_number.Goals as goal
 
 pub returns-then-is_empty : goal.returns-then-is_empty
-returns-then-is_empty c = sym (number_of-empty c.args.word.now (eqb-true (length c.args.word.now) 0 (sym c.is_empty.ensures ∙ c.if-is_empty.true)))
+returns-then-is_empty c = sym (number_of-empty c.args.word.now
+    (eqb-true (length c.args.word.now) 0 (sym c.is_empty.ensures ∙ c.if-is_empty.true)))
 
 pub returns-then-not-is_ascii_digit : goal.returns-then-not-is_ascii_digit
 returns-then-not-is_ascii_digit c =

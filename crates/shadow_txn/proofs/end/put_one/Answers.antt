@@ -13,13 +13,16 @@ use Rattle.shadow_txn.proofs.end.put_one.Goals as goal
 abbrev end : (g : _) (c : goal.After-put-arg-1 g) → End
 end g c = end_with c.args.closing.stamp c.args.closing.session c.args.closing.number c.args.closing.committed c.args.one.acts
 
-legal : (g : _) (c : goal.After-put-arg-1 g) (first : Plain) → IsLegalObject g.H.Annals.told first c.args.one.object → IsLegalObject g.H.Annals.told first c.end_object.new.object
+legal : (g : _) (c : goal.After-put-arg-1 g) (first : Plain) →
+    IsLegalObject g.H.Annals.told first c.args.one.object →
+    IsLegalObject g.H.Annals.told first c.end_object.new.object
 legal g c first was =
     legal_ended g.H.Annals.tells g.H.Annals.told g.H.Annals.last first c.args.one.object c.end_object.new.object (end g c) _ refl
-    ((g.met.H.Annals g.world.𝓛 g.world.𝓜 g.world.𝓡 ((λ s x. x), (λ x. x), (λ x. x), λ x. x)).tells_all c.args.one.object.annals) was c.requires.can.led c.requires.can.above c.end_object.ensures
+    (g.met.H.Annals.tells_all c.args.one.object.annals) was c.requires.can.led c.requires.can.above c.end_object.ensures
 
 added : (g : _) (c : goal.After-put-arg-1 g)
-    → added_ends (option_flatten ((g.X.Shelf.shelving c.args.shelf.now).out c.args.one.number)) (g.H.Annals.told c.end_object.new.object.annals)
+    → added_ends (option_flatten ((g.X.Shelf.shelving c.args.shelf.now).out c.args.one.number))
+    (g.H.Annals.told c.end_object.new.object.annals)
     ≡ option_map_or (λ _. end g c ∷ []) (option_flatten ((g.X.Shelf.shelving c.args.shelf.now).out c.args.one.number)) []
 added g c = one_added _ (g.H.Annals.told c.args.one.object.annals) _ (end g c) c.requires.can.came c.end_object.ensures.ends
 
@@ -36,7 +39,12 @@ pub returns-clause-home : goal.returns-clause-home
 returns-clause-home g c = record { home = c.end_object.new.object; put = c.put.ensures.put; got = c.end_object.ensures }
 
 pub returns-clause-may : goal.returns-clause-may
-returns-clause-may g c = may_next _ c.args.one.number c.end_object.new.object (end g c.before) _ _ c.put.ensures.put (added g c.before) c.requires.may
+returns-clause-may g c = may_next _ c.args.one.number c.end_object.new.object (end g c.before) _ _ c.put.ensures.put
+    (added g c.before) c.requires.may
 
 pub returns-clause-under : goal.returns-clause-under
-returns-clause-under g c = λ t frame was under. c.put.ensures.under t under (record { framed = sym frame; history = legal g c.before _ was })
+returns-clause-under g c = λ t frame was under. c.put.ensures.under t under (record {
+  framed = sym frame;
+  history =
+      legal g c.before _ was;
+})

@@ -21,4 +21,4 @@ returns-in-Err-clause-err g c =
       stamp = refl;
     } in
     leaves_returned told last c.in-Err.fail c.args.o stamp before after back c.in-Err.ensures.within
-    (λ e. worn.0 (ap Err e), λ e. cc (worn.1 e)) c.in-Err.ensures.memory
+    (λ e. worn.0 (ap Err e), λ e. cc (worn.1 e)) c.in-Err.ensures.err

@@ -7,5 +7,5 @@ use Rattle.space_directory.proofs.tests.data_pages.Goals as goal
 pub returns-clause-sized : goal.returns-clause-sized
 returns-clause-sized c =
     let rest : AreOf 256 c.cut.new.self.pages = subst (λ (pages : List (List ℕ)). AreOf 256 pages) (sym c.cut.ensures.rest_pages)
-    (All-drop (λ (page : List ℕ). length page ≡ 256) 3 c.in-Ok-mount.span.pages (c.in-Ok-mount.ensures.sized refl)) in
+    (All-drop (λ (page : List ℕ). length page ≡ 256) 3 c.in-Ok-mount.span.pages (c.in-Ok-mount.ensures.front.sized refl)) in
     rest

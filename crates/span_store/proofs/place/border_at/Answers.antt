@@ -9,7 +9,8 @@ use Rattle.span_store.proofs.place.border_at.Goals as goal
 
 pub returns-then-behind-lt2-clause-none : goal.returns-then-behind-lt2-clause-none
 returns-then-behind-lt2-clause-none g c =
-    no_border (spans_of g.S.Span.start g.S.Span.contents c.args.spans.now) c.args.page c.place_of-behind.result c.requires c.place_of-behind.ensures
+    no_border (spans_of g.S.Span.start g.S.Span.contents c.args.spans.now) c.args.page c.place_of-behind.result
+    c.requires c.place_of-behind.ensures
     (λ met. let some = met.some in omega arith)
 
 pub offset_bounds-spans-next : goal.offset_bounds-spans-next
@@ -27,7 +28,8 @@ returns-then-begun-page-clause-none g c =
     let rows = spans_of g.S.Span.start g.S.Span.contents c.args.spans.now in
     let k = c.place_of-behind.result in
     let place = c.place_of-behind.ensures in
-    let within : k - 1 < length c.args.spans.now = omega (arith, place.within, length-map c.args.spans.now (span_of g.S.Span.start g.S.Span.contents)) in
+    let within : k - 1 < length c.args.spans.now =
+    omega (arith, place.within, length-map c.args.spans.now (span_of g.S.Span.start g.S.Span.contents)) in
     let same = span_at g.S.Span.start g.S.Span.contents c.args.spans.now (k - 1) c.index-spans-next.result within c.index-spans-next.is in
     let first = ap (λ (s : HeldSpan). s.first) same in
     no_border rows c.args.page k c.requires place (λ met.
@@ -51,7 +53,8 @@ returns-then-end-page-clause-none g c =
     let rows = spans_of g.S.Span.start g.S.Span.contents c.args.spans.now in
     let k = c.place_of-behind.result in
     let place = c.place_of-behind.ensures in
-    let within : k - 2 < length c.args.spans.now = omega (arith, place.within, length-map c.args.spans.now (span_of g.S.Span.start g.S.Span.contents)) in
+    let within : k - 2 < length c.args.spans.now =
+    omega (arith, place.within, length-map c.args.spans.now (span_of g.S.Span.start g.S.Span.contents)) in
     let same = span_at g.S.Span.start g.S.Span.contents c.args.spans.now (k - 2) c.index-spans-index.result within c.index-spans-index.is in
     let first = ap (λ (s : HeldSpan). s.first) same in
     let long = ap (λ (s : HeldSpan). length s.pages) same in
@@ -65,8 +68,10 @@ returns-clause-found g c =
     let k = c.place_of-behind.result in
     let place = c.place_of-behind.ensures in
     let count = length-map c.args.spans.now (span_of g.S.Span.start g.S.Span.contents) in
-    let same = span_at g.S.Span.start g.S.Span.contents c.args.spans.now (k - 2) c.index-spans-index.result (omega (arith, place.within, count)) c.index-spans-index.is in
-    let same_next = span_at g.S.Span.start g.S.Span.contents c.args.spans.now (k - 1) c.index-spans-next.result (omega (arith, place.within, count)) c.index-spans-next.is in
+    let same = span_at g.S.Span.start g.S.Span.contents c.args.spans.now (k - 2) c.index-spans-index.result
+    (omega (arith, place.within, count)) c.index-spans-index.is in
+    let same_next = span_at g.S.Span.start g.S.Span.contents c.args.spans.now (k - 1) c.index-spans-next.result
+    (omega (arith, place.within, count)) c.index-spans-next.is in
     let first = ap (λ (s : HeldSpan). s.first) same in
     let long = ap (λ (s : HeldSpan). length s.pages) same in
     let begun : first_at rows (k - 1) ≡ c.args.page = ap (λ (s : HeldSpan). s.first) same_next ∙ omega (arith, c.first-begun.ensures) in

@@ -12,8 +12,10 @@ invariant-loop-done g l = record {
   within : l.done ≤ l.pages;
   page : l.page ≡ l.first + l.done;
   near : l.done < l.pages → IsNear (spans_of g.P.S.Span.start g.P.S.Span.contents l.spans) l.index l.page;
-  copied : IsTrue g.P.S.Span.tells → take (l.done * l.size) l.out ≡ run_bytes (bytes_in (spans_of g.P.S.Span.start g.P.S.Span.contents l.spans)) l.first l.done;
+  copied : IsTrue g.P.S.Span.tells →
+      take (l.done * l.size) l.out ≡ run_bytes (bytes_in (spans_of g.P.S.Span.start g.P.S.Span.contents l.spans)) l.first l.done;
   counts : HasRead l.done (g.P.Port.meter l.fn.port) (g.P.Port.meter l.port);
+  still : (g.P.Port.meter l.port).faults ≡ (g.P.Port.meter l.fn.port).faults;
 }
 
 abbrev pub decreases-loop-done : goal.decreases-loop-done

@@ -13,11 +13,14 @@ invariant-loop-done g l = record {
   within : l.done ≤ l.pages;
   page : l.page ≡ l.first + l.done;
   near : l.done < l.pages → IsNear (spans_of g.P.S.Span.start g.P.S.Span.contents l.spans.items) l.index l.page;
-  over : IsOver l.first l.done (spans_of g.P.S.Span.start g.P.S.Span.contents l.fn.spans.items) (spans_of g.P.S.Span.start g.P.S.Span.contents l.spans.items);
+  over : IsOver l.first l.done (spans_of g.P.S.Span.start g.P.S.Span.contents l.fn.spans.items)
+      (spans_of g.P.S.Span.start g.P.S.Span.contents l.spans.items);
   sized : EachSized g.P.S.Span.tells (g.P.Port.meter l.fn.port).page (spans_of g.P.S.Span.start g.P.S.Span.contents l.spans.items);
-  written : IsTrue g.P.S.Span.tells → run_bytes (bytes_in (spans_of g.P.S.Span.start g.P.S.Span.contents l.spans.items)) l.first l.done ≡ take (l.done * l.size) l.bytes;
+  written : IsTrue g.P.S.Span.tells →
+      run_bytes (bytes_in (spans_of g.P.S.Span.start g.P.S.Span.contents l.spans.items)) l.first l.done ≡ take (l.done * l.size) l.bytes;
   room : vec_capacity l.spans ≡ vec_capacity l.fn.spans;
   counts : HasWritten l.done (g.P.Port.meter l.fn.port) (g.P.Port.meter l.port);
+  still : (g.P.Port.meter l.port).faults ≡ (g.P.Port.meter l.fn.port).faults;
 }
 
 abbrev pub decreases-loop-done : goal.decreases-loop-done

@@ -1,12 +1,13 @@
 -- One space was entered, used and left.
 use Rattle.std.proofs.Common.{◌-◌}
-use Rattle.space_directory.specs.SpaceView.{unlocked}
+use Rattle.space_directory.specs.SpaceView.{after_unlock}
 use Rattle.superdirectory.proofs.Spots.{used}
 use Rattle.superdirectory.proofs.giving.unlock_run.Goals as goal
 
 pub returns : goal.returns
 returns g c =
-    used (λ v. unlocked v (c.args.first - v.first) c.args.n) c.args.s c.enter-space.result c.unlock.new.self
+    used (λ v. after_unlock v (c.args.first - v.first) c.args.n) c.args.s c.enter-space.result c.unlock.new.self
     (g.L.Hints.rest c.args.latches.now) (g.L.Hints.rest c.enter-space.new.self) (g.L.Hints.rest c.leave.new.self)
     (g.L.Hints.trace c.args.latches.now) (g.L.Hints.trace c.enter-space.new.self) (g.L.Hints.trace c.leave.new.self)
-    c.requires.run.named c.enter-space.ensures.told c.unlock.ensures.unlocked c.enter-space.ensures.rest c.leave.ensures.rest c.enter-space.ensures.trace c.leave.ensures.trace
+    c.requires.run.named c.enter-space.ensures.told c.unlock.ensures.unlocked c.enter-space.ensures.rest
+    c.leave.ensures.rest c.enter-space.ensures.trace c.leave.ensures.trace

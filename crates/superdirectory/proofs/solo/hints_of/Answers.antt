@@ -19,7 +19,8 @@ loop-space-preserved g c =
     let v = c.space-item.result in
     let kept = c.loop-space.invariant in
     let less : i < length spaces = omega arith in
-    let hint : c.of.result.0 ≡ hint_of (get_or spaces i v).free = c.of.ensures ∙ ap hint_of c.as_ref.ensures.free ∙ ap (λ (w : SpaceView). hint_of w.free) c.space-item.is in
+    let hint : c.of.result.0 ≡ hint_of (get_or spaces i v).free = c.of.ensures ∙ ap hint_of c.as_ref.ensures.free
+    ∙ ap (λ (w : SpaceView). hint_of w.free) c.space-item.is in
     record {
       room = omega (arith, kept.room, c.push_reserved.ensures.capacity);
       hints = ap (map (λ (h : Hint). h.0)) c.push_reserved.ensures.items

@@ -24,8 +24,10 @@ loop-pair-preserved c =
     record {
       place = omega arith;
       items = c.in_ok-push_child.ensures
-          ∙ ap (λ (xs : List Placed). xs ++ in_range c.args.from c.args.to c.loop-pair.place (slice_index_or pairs i none ∷ [])) c.loop-pair.invariant.items
-          ∙ ap (λ (n : ℕ). (c.args.into.now.items ++ in_range c.args.from c.args.to c.args.start (take i pairs)) ++ in_range c.args.from c.args.to n (slice_index_or pairs i none ∷ [])) c.loop-pair.invariant.place
+          ∙ ap (λ (xs : List Placed). xs ++ in_range c.args.from c.args.to c.loop-pair.place
+          (slice_index_or pairs i none ∷ [])) c.loop-pair.invariant.items
+          ∙ ap (λ (n : ℕ). (c.args.into.now.items ++ in_range c.args.from c.args.to c.args.start (take i pairs))
+          ++ in_range c.args.from c.args.to n (slice_index_or pairs i none ∷ [])) c.loop-pair.invariant.place
           ∙ append_assoc c.args.into.now.items _ _
           ∙ ap (λ (xs : List Placed). c.args.into.now.items ++ xs) (sym found);
     }

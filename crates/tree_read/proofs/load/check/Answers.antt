@@ -1,10 +1,10 @@
 -- Where the device tells, the node is the one that is asked for, so no fault is counted then.
-use Rattle.std.proofs.Common.{IsTrue}
-use Rattle.tree_read.proofs.MeterLemmas.{Reads-blame, Reads-none}
+use Rattle.std.proofs.Common.{IsTrue, refl}
+use Rattle.fault_count.proofs.CountLaws.{HasCause-found, Reads-blame, Reads-none}
 use Rattle.tree_read.proofs.load.check.Goals as goal
 
 pub returns-then-is_named-clause-reads : goal.returns-then-is_named-clause-reads
-returns-then-is_named-clause-reads g c = Reads-none (g.P.Port.meter c.args.port.now)
+returns-then-is_named-clause-reads g c = Reads-none 0 (g.P.Port.meter c.args.port.now)
 
 pub returns-clause-reads : goal.returns-clause-reads
 returns-clause-reads g c =
@@ -18,4 +18,4 @@ returns-clause-cause g c =
     let yes = c.is_named.ensures.1 (c.requires.level t, c.requires.bytes t) in
     let broken = rw c.if-is_named.false at yes in
     absurd cc in
-    record { kept = c.blame.ensures.kept; raised = λ _. c.blame.ensures.faults untold }
+    HasCause-found _ _ _ _ refl c.blame.ensures.kept (c.blame.ensures.faults untold) refl

@@ -4,28 +4,28 @@ use Rattle.std.specs.Prelude.{IsTrue, OnOk}
 use Rattle.std.proofs.Math.Nat.{mod_self}
 use Rattle.geometry_model.proofs.NumberLaws.{page_size-low}
 use Rattle.tree_model.specs.Content.{run_bytes}
-use Rattle.span_store.specs.Held.{HasRun, bytes_on}
+use Rattle.span_store.specs.Held.{HoldsRun, bytes_on}
 use Rattle.tree_read.proofs.HeldLemmas.{run_of_one}
 use Rattle.tree_read.proofs.MeterLemmas.{one_page}
 use Rattle.tree_read.proofs.page.read_page.Goals as goal
 
 pub read_run-requires-clause-whole : goal.read_run-requires-clause-whole
-read_run-requires-clause-whole g c κs within =
+read_run-requires-clause-whole g c =
     let size = (g.P.Port.meter c.args.port.now).page in
-    let low = page_size-low size c.requires.page_size in
+    let low = page_size-low size c.requires.pages.size_is in
     record { some = omega (arith, low, c.requires.whole); even = ap (λ (n : ℕ). n % size) c.requires.whole ∙ mod_self size }
 
 pub read_run-requires-clause-held : goal.read_run-requires-clause-held
-read_run-requires-clause-held g c κs within =
+read_run-requires-clause-held g c =
     let size = (g.P.Port.meter c.args.port.now).page in
-    let low = page_size-low size c.requires.page_size in
+    let low = page_size-low size c.requires.pages.size_is in
     let one = one_page (length c.args.out.now) size c.requires.whole (omega (arith, low)) in
-    subst (HasRun c.args.held.now c.args.page) (sym one) (run_of_one c.args.held.now c.args.page c.requires.held)
+    subst (HoldsRun c.args.held.now c.args.page) (sym one) (run_of_one c.args.held.now c.args.page c.requires.held)
 
 pub returns-clause-bytes : goal.returns-clause-bytes
 returns-clause-bytes g c =
     let size = (g.P.Port.meter c.args.port.now).page in
-    let low = page_size-low size c.requires.page_size in
+    let low = page_size-low size c.requires.pages.size_is in
     let one = one_page (length c.args.out.now) size c.requires.whole (omega (arith, low)) in
     let same : run_bytes (bytes_on c.args.held.now) c.args.page (length c.args.out.now / size) ≡ bytes_on c.args.held.now c.args.page =
     ap (run_bytes (bytes_on c.args.held.now) c.args.page) one ∙ append-nil (bytes_on c.args.held.now c.args.page) in
@@ -34,8 +34,11 @@ returns-clause-bytes g c =
 pub returns-clause-reads : goal.returns-clause-reads
 returns-clause-reads g c =
     let size = (g.P.Port.meter c.args.port.now).page in
-    let low = page_size-low size c.requires.page_size in
+    let low = page_size-low size c.requires.pages.size_is in
     let one = one_page (length c.args.out.now) size c.requires.whole (omega (arith, low)) in
     let reads = c.read_run.ensures.reads in
     let most = reads.most in
-    record { used = reads.used; written = reads.written; few = omega (arith, most, one) }
+    record { used = reads.used; written = reads.written; most = omega (arith, most, one) }
+
+pub read_run-requires-clause-sized : goal.read_run-requires-clause-sized
+read_run-requires-clause-sized g c = c.requires.pages.sized

@@ -1,23 +1,45 @@
 -- Each node adds those of its pairs that have a byte in the range.
-use Rattle.std.proofs.Common.{◌≡◌, ℕ, ◌+◌, ◌++◌, List, take, get_or, sym, ap, subst, ◌∙◌, arith}
+use Rattle.std.proofs.Common.{◌≡◌, ℕ, ◌+◌, ◌++◌, List, length, take, get_or, sym, ap, subst, ◌∙◌, arith}
 use Rattle.tree_model.specs.declared.entry.Pair.{Pair}
 use Rattle.tree_model.specs.declared.entry.Placed.{Placed}
 use Rattle.tree_model.specs.Tree.{bytes_of, pairs_on}
 use Rattle.tree_model.specs.Range.{in_range}
 use Rattle.tree_read.specs.Cost.{below}
 use Rattle.tree_read.specs.Scratch.{IsPrepared}
-use Rattle.tree_read.specs.Search.{EndsInside, KeepsNodes}
-use Rattle.tree_read.proofs.TreeLemmas.{AllByRecursion-append}
+use Rattle.tree_read.specs.Search.{EndsInside, IsNamed}
+use Rattle.base_laws.proofs.ListLaws.{all-append}
+use Rattle.std.proofs.lemmas.Bool.{false≢true}
+use Rattle.std.proofs.lemmas.List.{take_all}
+use Rattle.tree_model.specs.Range.{start_of}
+use Rattle.tree_read.proofs.CoverLemmas.{AreChildren, AreChildren-more, AreChildren-cover, adjoined-start}
 use Rattle.tree_read.proofs.LevelLemmas.{AllByRecursion-at, below-more, in_range-inside}
 use Rattle.std.specs.Prelude.{IsSome}
 use Rattle.page_cache.specs.Kept.{kept}
-use Rattle.tree_read.proofs.CacheLemmas.{CostsNothing-then, kept-same}
-use Rattle.tree_read.proofs.MeterLemmas.{Reads-then}
+use Rattle.tree_read.proofs.CacheLemmas.{AsksSearch-on, Visits-then, kept-same}
+use Rattle.fault_count.proofs.CountLaws.{Reads-more}
 use Rattle.span_store.specs.Held.{bytes_on}
 use Rattle.tree_read.proofs.range.level_below.Goals as goal
 
 abbrev none : Placed
 none = record { start = 0; pair = record { bytes = 0; page = 0 } }
+
+pub load-requires-clause-asks : goal.load-requires-clause-asks
+load-requires-clause-asks g c =
+    AsksSearch-on _ _ _ _ _ _ c.loop-node.invariant.visits.reads.used.page c.requires.asks.pages c.loop-node.invariant.visits.nodes
+    (λ t. AllByRecursion-at (IsNamed (bytes_on c.args.held.now) c.args.level) c.args.nodes.now c.loop-node.node-index none
+    c.loop-node-test.true (c.requires.asks.stands t))
+
+pub load-requires-clause-prepared : goal.load-requires-clause-prepared
+load-requires-clause-prepared g c =
+    subst (λ (n : ℕ). IsPrepared n c.loop-node.scratch) (sym c.loop-node.invariant.visits.reads.used.page)
+    c.loop-node.invariant.prepared
+
+pub push_children-requires : goal.push_children-requires
+push_children-requires g c =
+    let ends : EndsInside (get_or c.args.nodes.now c.loop-node.node-index none) =
+    AllByRecursion-at EndsInside c.args.nodes.now c.loop-node.node-index none c.loop-node-test.true c.requires.reaches.ends in
+    let sum = ap bytes_of c.as_slice.ensures ∙ c.in_ok-load.ensures.sum in
+    omega (arith, ends, sum)
 
 pub loop-node-preserved : goal.loop-node-preserved
 loop-node-preserved g c =
@@ -27,28 +49,68 @@ loop-node-preserved g c =
     let from = c.args.from in
     let to = c.args.to in
     let at = bytes_on c.args.held.now in
-    let m0 = g.P.Port.meter c.args.port.now in
-    let m1 = g.P.Port.meter c.loop-node.port in
-    let same : m1.page ≡ m0.page = c.loop-node.invariant.reads.used.page in
+    let same = c.loop-node.invariant.visits.reads.used.page in
     let ps = c.as_slice.result.now in
-    let ends : EndsInside s = AllByRecursion-at EndsInside nodes i none c.loop-node-test.true c.requires.fits in
+    let ends : EndsInside s = AllByRecursion-at EndsInside nodes i none c.loop-node-test.true c.requires.reaches.ends in
     let sum : bytes_of ps ≡ s.pair.bytes = ap bytes_of c.as_slice.ensures ∙ c.in_ok-load.ensures.sum in
     record {
-      kept = subst (λ (n : ℕ). KeepsNodes g.P.S.Span.tells n (bytes_on c.args.held.now) c.load.new.cache) same c.load.ensures.kept;
+      visits = Visits-then _ _ _ _ i 1 (i + 1) _ _ _ _ _ _ _ _ c.loop-node.invariant.visits c.load.ensures.visits same
+          (λ kept_same held. kept-same c.args.cache.now c.loop-node.cache s.pair.page kept_same
+          (AllByRecursion-at (λ r. IsSome (kept c.args.cache.now r.pair.page)) nodes i none c.loop-node-test.true held))
+          (omega arith);
       prepared = subst (λ (n : ℕ). IsPrepared n c.load.new.scratch) same c.load.ensures.prepared;
-      reads = Reads-then i 1 (i + 1) m0 m1 (g.P.Port.meter c.load.new.port) c.loop-node.invariant.reads c.load.ensures.reads (omega arith);
       told = λ t.
           let pairs : ps ≡ pairs_on at s.pair.page = c.as_slice.ensures ∙ c.in_ok-load.ensures.told t in
           c.in_ok-push_children.ensures
           ∙ ap (λ (xs : List Placed). xs ++ in_range from to s.start ps) (c.loop-node.invariant.told t)
           ∙ ap (λ (xs : List Pair). below at from to (take i nodes) ++ in_range from to s.start xs) pairs
           ∙ sym (below-more at from to nodes i none c.loop-node-test.true);
+      quiet = c.in_ok-load.ensures.cause.still false≢true ∙ c.loop-node.invariant.quiet;
+      spelled = AreChildren-more from to (start_of nodes) nodes c.loop-node.children.items
+          c.push_children.new.into.items ps i none c.loop-node-test.true
+          c.loop-node.invariant.spelled (adjoined-start nodes i none c.requires.reaches.covers.adjoined
+          c.loop-node-test.true) sum c.in_ok-push_children.ensures;
       fits =
           let inside = in_range-inside from to s.start ps (omega arith) in
           rw c.in_ok-push_children.ensures
-          (AllByRecursion-append EndsInside c.loop-node.children.items (in_range from to s.start ps) c.loop-node.invariant.fits inside);
-      cached = λ held.
-          let so_far = c.loop-node.invariant.cached held in
-          let here = kept-same c.args.cache.now c.loop-node.cache s.pair.page so_far.same (AllByRecursion-at (λ r. IsSome (kept c.args.cache.now r.pair.page)) nodes i none c.loop-node-test.true held) in
-          CostsNothing-then c.args.cache.now c.loop-node.cache c.load.new.cache m0 m1 (g.P.Port.meter c.load.new.port) so_far (c.load.ensures.cached here);
+          (all-append EndsInside c.loop-node.children.items (in_range from to s.start ps) c.loop-node.invariant.fits inside);
+    }
+
+pub returns-in_err-load-clause-visits : goal.returns-in_err-load-clause-visits
+returns-in_err-load-clause-visits g c =
+    let i = c.loop-node.node-index in
+    let nodes = c.args.nodes.now in
+    Visits-then _ _ _ _ i 1 (length nodes) _ _ _ _ _ _ _ _ c.loop-node.invariant.visits c.load.ensures.visits
+    c.loop-node.invariant.visits.reads.used.page
+    (λ same held. kept-same c.args.cache.now c.loop-node.cache (get_or nodes i none).pair.page same
+    (AllByRecursion-at (λ r. IsSome (kept c.args.cache.now r.pair.page)) nodes i none c.loop-node-test.true held))
+    (omega arith)
+
+pub returns-in_err-push_children-clause-visits : goal.returns-in_err-push_children-clause-visits
+returns-in_err-push_children-clause-visits g c =
+    let i = c.loop-node.node-index in
+    let nodes = c.args.nodes.now in
+    Visits-then _ _ _ _ i 1 (length nodes) _ _ _ _ _ _ _ _ c.loop-node.invariant.visits c.load.ensures.visits
+    c.loop-node.invariant.visits.reads.used.page
+    (λ same held. kept-same c.args.cache.now c.loop-node.cache (get_or nodes i none).pair.page same
+    (AllByRecursion-at (λ r. IsSome (kept c.args.cache.now r.pair.page)) nodes i none c.loop-node-test.true held))
+    (omega arith)
+
+pub returns-clause-visits : goal.returns-clause-visits
+returns-clause-visits g c =
+    let visits = c.loop-node.invariant.visits in record {
+      nodes = visits.nodes;
+      reads = Reads-more c.loop-node.node-index (length c.args.nodes.now) _ _ visits.reads (omega arith);
+      cached = visits.cached;
+    }
+
+pub returns-clause-reaches : goal.returns-clause-reaches
+returns-clause-reaches g c =
+    let nodes = c.args.nodes.now in
+    let children = c.loop-node.children.items in
+    let all = take_all c.loop-node.node-index nodes (omega arith) in
+    record {
+      covers = AreChildren-cover c.args.from c.args.to nodes children c.requires.reaches.covers
+          (subst (λ (ss : List Placed). AreChildren c.args.from c.args.to (start_of nodes) ss children) all c.loop-node.invariant.spelled);
+      ends = c.loop-node.invariant.fits;
     }

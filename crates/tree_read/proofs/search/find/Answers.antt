@@ -1,42 +1,66 @@
--- At each level one segment has the byte, and below it stands the one that the definition has.
-use Rattle.std.proofs.Common.{◌≡◌, ℕ, suc, ◌+◌, ◌-◌, ◌/◌, [], ◌∷◌, ap, subst, ◌∙◌, arith}
+-- At each level one pair has the byte, and below it stands the one that the definition has.
+use Rattle.std.proofs.Common.{◌≡◌, ℕ, suc, ◌+◌, ◌-◌, ◌/◌, Bool, [], ◌∷◌, refl, sym, ap, subst, ◌∙◌, arith}
+use Rattle.std.proofs.lemmas.Bool.{false≢true}
 use Rattle.tree_model.specs.declared.entry.Placed.{Placed}
 use Rattle.tree_model.specs.Node.{room_of}
-use Rattle.tree_model.specs.Tree.{bytes_of}
+use Rattle.tree_model.specs.Tree.{Pages, bytes_of}
+use Rattle.fault_count.specs.Counts.{Meter}
+use Rattle.page_cache.specs.Kept.{KeptNodes}
 use Rattle.tree_read.specs.Scratch.{IsPrepared}
-use Rattle.tree_read.specs.Search.{KeepsNodes}
-use Rattle.tree_read.proofs.LevelLemmas.{IsLevel, IsLevel-find, IsLevel-named, IsLevel-one, one-inside, same_segment}
-use Rattle.tree_read.proofs.CacheLemmas.{AreKept-child, AreKept-level, AreKept-root, CostsNothing-none, CostsNothing-then, kept-same}
-use Rattle.tree_read.proofs.MeterLemmas.{Reads-then, Reads-none, Reads-more}
+use Rattle.tree_read.specs.Search.{KeepsNodes, Visits}
+use Rattle.tree_read.proofs.LevelLemmas.{IsLevel, IsLevel-find, IsLevel-named, IsLevel-one, one-inside, same_pair}
+use Rattle.tree_read.proofs.CacheLemmas.{AreKept-child, AreKept-level, AreKept-root, AsksSearch-on, CostsNothing-none}
+use Rattle.tree_read.proofs.CacheLemmas.{Visits-then, kept-same}
+use Rattle.fault_count.proofs.CountLaws.{Reads-none, Reads-more}
 use Rattle.span_store.specs.Held.{bytes_on}
 use Rattle.tree_read.proofs.search.find.Goals as goal
+
+-- no node was looked at yet
+none_yet : (told : Bool) (size : ℕ) (at : Pages) (n : ℕ) (F : Type 0) (cache : KeptNodes) (m : Meter) → KeepsNodes told size at cache
+    → Visits told size at n F cache cache m m
+none_yet told size at n F cache m nodes =
+    record { nodes = nodes; reads = Reads-none n m; cached = λ f. CostsNothing-none cache m }
+
+pub returns-in_err-scratch-clause-visits : goal.returns-in_err-scratch-clause-visits
+returns-in_err-scratch-clause-visits g c = none_yet _ _ _ _ _ _ _ c.requires.asks.nodes
 
 pub loop-level-init : goal.loop-level-init
 loop-level-init g c =
     let root = c.args.root.now in
     let m = g.P.Port.meter c.args.port.now in
     record {
-      kept = c.requires.kept;
       prepared = subst (λ (n : ℕ). IsPrepared n c.in_ok-scratch.scratch) c.page.ensures c.in_ok-scratch.ensures;
       down = omega arith;
-      reads = Reads-more 0 (root.height - root.height) m m (Reads-none m) (omega arith);
-      before = omega arith;
-      behind = let inside = c.requires.inside in omega arith;
-      fits = c.root_segment-segment.ensures.fits;
-      told = λ t. subst (λ (s : Placed). IsLevel (bytes_on c.args.held.now) c.args.at (c.args.at + 1) root.height root.page root.height (s ∷ []))
-          (same_segment c.root_segment-segment.result root.length root.page c.root_segment-segment.ensures.start c.root_segment-segment.ensures.bytes c.root_segment-segment.ensures.page)
-          (IsLevel-find (bytes_on c.args.held.now) (room_of m.page / 2) c.args.at root.height root.page root.length (c.requires.told t) c.requires.inside);
-      cached = λ t held.
-          let segment = same_segment c.root_segment-segment.result root.length root.page c.root_segment-segment.ensures.start c.root_segment-segment.ensures.bytes c.root_segment-segment.ensures.page in
-          (CostsNothing-none c.args.cache.now m, AreKept-root c.args.cache.now (bytes_on c.args.held.now) c.args.at root.height root.page root.length c.root_segment-segment.result segment held);
+      visits = none_yet _ _ _ _ _ _ _ c.requires.asks.nodes;
+      quiet = refl;
+      here = let inside = c.requires.inside in record { from = omega arith; to = omega arith; fits = c.root_pair-child.ensures.fits };
+      told = λ t. subst (λ (s : Placed). IsLevel (bytes_on c.args.held.now) c.args.at (c.args.at + 1) root.height
+          root.page root.height (s ∷ []))
+          (same_pair c.root_pair-child.result root.length root.page c.root_pair-child.ensures.start
+          c.root_pair-child.ensures.bytes c.root_pair-child.ensures.page)
+          (IsLevel-find (bytes_on c.args.held.now)
+          (room_of m.page / 2) c.args.at root.height root.page root.length (c.requires.asks.stands t)
+          c.requires.inside);
+      left = λ t held.
+          let same = same_pair c.root_pair-child.result root.length root.page c.root_pair-child.ensures.start
+          c.root_pair-child.ensures.bytes c.root_pair-child.ensures.page in
+          AreKept-root c.args.cache.now (bytes_on c.args.held.now) c.args.at root.height root.page root.length
+          c.root_pair-child.result same held;
     }
 
-pub load-requires-clause-told : goal.load-requires-clause-told
-load-requires-clause-told g c = λ _ _ t.
+pub load-requires-clause-asks : goal.load-requires-clause-asks
+load-requires-clause-asks g c =
     let root = c.args.root.now in
     let level = c.loop-level.level in
     let e : level ≡ suc (level - 1) = omega arith in
-    (IsLevel-named (bytes_on c.args.held.now) c.args.at (c.args.at + 1) root.height root.page level (level - 1) (c.loop-level.segment ∷ []) e (c.loop-level.invariant.told t)).0
+    AsksSearch-on _ _ _ _ _ _ c.loop-level.invariant.visits.reads.used.page c.requires.asks.pages c.loop-level.invariant.visits.nodes
+    (λ t. (IsLevel-named (bytes_on c.args.held.now) c.args.at (c.args.at + 1) root.height root.page level (level - 1)
+    (c.loop-level.child ∷ []) e (c.loop-level.invariant.told t)).0)
+
+pub load-requires-clause-prepared : goal.load-requires-clause-prepared
+load-requires-clause-prepared g c =
+    subst (λ (n : ℕ). IsPrepared n c.loop-level.scratch) (sym c.loop-level.invariant.visits.reads.used.page)
+    c.loop-level.invariant.prepared
 
 pub loop-level-preserved : goal.loop-level-preserved
 loop-level-preserved g c =
@@ -45,46 +69,49 @@ loop-level-preserved g c =
     let pages = bytes_on c.args.held.now in
     let level = c.loop-level.level in
     let e : level ≡ suc (level - 1) = omega arith in
-    let m0 = g.P.Port.meter c.args.port.now in
-    let m1 = g.P.Port.meter c.loop-level.port in
-    let m2 = g.P.Port.meter c.load.new.port in
-    let page : m1.page ≡ m0.page = c.loop-level.invariant.reads.used.page in
-    let s = c.loop-level.segment in
-    let r = c.child_at-segment.result in
+    let page = c.loop-level.invariant.visits.reads.used.page in
+    let s = c.loop-level.child in
+    let r = c.child_at-child.result in
     let ps = c.as_slice.result.now in
     let down = c.loop-level.invariant.down in
-    let ends = c.loop-level.invariant.fits in
+    let here = c.loop-level.invariant.here in
     let sum : bytes_of ps ≡ s.pair.bytes = ap bytes_of c.as_slice.ensures ∙ c.in_ok-load.ensures.sum in
-    let inside = one-inside at s.start ps r c.child_at-segment.ensures (omega arith) in
+    let inside = one-inside at s.start ps r c.child_at-child.ensures (omega arith) in
     record {
-      kept = subst (λ (n : ℕ). KeepsNodes g.P.S.Span.tells n (bytes_on c.args.held.now) c.load.new.cache) page c.load.ensures.kept;
       prepared = subst (λ (n : ℕ). IsPrepared n c.load.new.scratch) page c.load.ensures.prepared;
       down = omega arith;
-      reads = Reads-then (root.height - level) 1 (root.height - (level - 1)) m0 m1 m2 c.loop-level.invariant.reads c.load.ensures.reads (omega arith);
-      before = inside.0;
-      behind = inside.1;
-      fits = inside.2;
+      visits = Visits-then _ _ _ _ (root.height - level) 1 (root.height - (level - 1)) _ _ _ _ _ _ _ _
+          c.loop-level.invariant.visits c.load.ensures.visits page
+          (λ same f. kept-same c.args.cache.now c.loop-level.cache s.pair.page same
+          (AreKept-level c.args.cache.now pages at (at + 1) level (level - 1) (s ∷ []) e
+          (c.loop-level.invariant.left f.0 f.1)).0)
+          (omega arith);
+      quiet = c.in_ok-load.ensures.cause.still false≢true ∙ c.loop-level.invariant.quiet;
+      here = inside;
       told = λ t. IsLevel-one pages at (at + 1) root.height root.page level (level - 1) s r ps e
-          (c.as_slice.ensures ∙ c.in_ok-load.ensures.told t) c.child_at-segment.ensures (c.loop-level.invariant.told t);
-      cached = λ t held.
-          let so_far = c.loop-level.invariant.cached t held in
-          let here = AreKept-level c.args.cache.now pages at (at + 1) level (level - 1) (s ∷ []) e so_far.1 in
-          let now = kept-same c.args.cache.now c.loop-level.cache s.pair.page so_far.0.same here.0 in (
-            CostsNothing-then c.args.cache.now c.loop-level.cache c.load.new.cache m0 m1 m2 so_far.0 (c.load.ensures.cached now),
-            AreKept-child c.args.cache.now pages at level (level - 1) s r ps e (c.as_slice.ensures ∙ c.in_ok-load.ensures.told t) c.child_at-segment.ensures so_far.1,
-          );
+          (c.as_slice.ensures ∙ c.in_ok-load.ensures.told t) c.child_at-child.ensures (c.loop-level.invariant.told t);
+      left = λ t held. AreKept-child c.args.cache.now pages at level (level - 1) s r ps e (c.as_slice.ensures
+          ∙ c.in_ok-load.ensures.told t) c.child_at-child.ensures (c.loop-level.invariant.left t held);
     }
 
-pub returns-in_err-load-clause-cached : goal.returns-in_err-load-clause-cached
-returns-in_err-load-clause-cached g c = λ t held.
-    let pages = bytes_on c.args.held.now in
+pub returns-in_err-load-clause-visits : goal.returns-in_err-load-clause-visits
+returns-in_err-load-clause-visits g c =
+    let root = c.args.root.now in
     let level = c.loop-level.level in
     let e : level ≡ suc (level - 1) = omega arith in
-    let s = c.loop-level.segment in
-    let so_far = c.loop-level.invariant.cached t held in
-    let here = AreKept-level c.args.cache.now pages c.args.at (c.args.at + 1) level (level - 1) (s ∷ []) e so_far.1 in
-    let now = kept-same c.args.cache.now c.loop-level.cache s.pair.page so_far.0.same here.0 in
-    (c.load.ensures.cached now).read ∙ so_far.0.read
+    let s = c.loop-level.child in
+    let down = c.loop-level.invariant.down in
+    Visits-then _ _ _ _ (root.height - level) 1 root.height _ _ _ _ _ _ _ _
+    c.loop-level.invariant.visits c.load.ensures.visits c.loop-level.invariant.visits.reads.used.page
+    (λ same f. kept-same c.args.cache.now c.loop-level.cache s.pair.page same
+    (AreKept-level c.args.cache.now (bytes_on c.args.held.now) c.args.at (c.args.at + 1) level (level - 1) (s ∷ []) e
+    (c.loop-level.invariant.left f.0 f.1)).0)
+    (omega arith)
 
-pub returns-clause-cached : goal.returns-clause-cached
-returns-clause-cached g c = λ t held. (c.loop-level.invariant.cached t held).0.read
+pub returns-clause-visits : goal.returns-clause-visits
+returns-clause-visits g c =
+    let visits = c.loop-level.invariant.visits in record {
+      nodes = visits.nodes;
+      reads = Reads-more (c.args.root.now.height - c.loop-level.level) c.args.root.now.height _ _ visits.reads (omega arith);
+      cached = visits.cached;
+    }

@@ -7,4 +7,5 @@ use Rattle.world.proofs.start.absent_objects.Goals as goal
 pub returns-in-Ok : goal.returns-in-Ok
 returns-in-Ok c =
     let all : c.loop-object._object ≡ c.args.count = omega arith in
-    c.in-Ok.ensures.ok ∙ ap (map Some) c.loop-object.invariant ∙ map-replicated Some c.loop-object._object first_object ∙ ap (λ n. replicate n (Some first_object)) all
+    c.in-Ok.ensures.ok ∙ ap (map Some) c.loop-object.invariant
+    ∙ map-replicated Some c.loop-object._object first_object ∙ ap (λ n. replicate n (Some first_object)) all

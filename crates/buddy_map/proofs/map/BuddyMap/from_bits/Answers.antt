@@ -12,9 +12,18 @@ unpack-requires c = let most : 2 ^ c.args.order ≤ 2 ^ 14 = pow_mono {i = c.arg
 pub overflow_cast-free : goal.overflow_cast-free
 overflow_cast-free c =
     let most : 2 ^ c.args.order ≤ 2 ^ 14 = pow_mono {i = c.args.order} {j = 14} c.requires.high in
-    omega (arith, c.count_pages-free.ensures, count-le-length c.deref.result.now, ap length c.deref.ensures.value, ap length c.in_ok-pages.ensures, length-unpacked c.args.bits.now)
+    omega (
+      arith,
+      c.count_pages-free.ensures,
+      count-le-length c.deref.result.now,
+      ap length c.deref.ensures.value,
+      ap length c.in_ok-pages.ensures,
+      length-unpacked c.args.bits.now,
+    )
 
 pub invariant_of-result : goal.invariant_of-result
 invariant_of-result c =
-    let most : 2 ^ c.args.order ≤ 2 ^ 14 = pow_mono {i = c.args.order} {j = 14} c.requires.high in
-    (c.count_pages-free.ensures ∙ ap count_of c.deref.ensures.value, omega (arith, ap length c.in_ok-pages.ensures, length-unpacked c.args.bits.now))
+    let most : 2 ^ c.args.order ≤ 2 ^ 14 = pow_mono {i = c.args.order} {j = 14} c.requires.high in (
+      c.count_pages-free.ensures ∙ ap count_of c.deref.ensures.value,
+      omega (arith, ap length c.in_ok-pages.ensures, length-unpacked c.args.bits.now),
+    )

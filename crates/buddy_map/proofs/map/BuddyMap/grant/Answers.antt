@@ -9,9 +9,14 @@ returns-in_default-clause-computed c =
     place-unique c.args.self.now c.args.n None
     (subst (λ (free : List Bool). IsPlace free c.args.n None) (c.deref.ensures.value ∙ c.self.view_is) c.in_default.ensures)
 
-pub remove_run-requires : goal.remove_run-requires
-remove_run-requires c =
-    omega (arith, IsPlace-within c.deref.result.now c.args.n c.in-Some.first c.requires.some c.in-Some.ensures, ap length c.deref.ensures.value, ap length c.deref_mut.ensures.value)
+pub take_out-requires : goal.take_out-requires
+take_out-requires c =
+    omega (
+      arith,
+      IsPlace-within c.deref.result.now c.args.n c.in-Some.first c.requires.some c.in-Some.ensures,
+      ap length c.deref.ensures.value,
+      ap length c.self.view_is,
+    )
 
 pub returns-clause-computed : goal.returns-clause-computed
 returns-clause-computed c =

@@ -9,7 +9,8 @@ returns-clause-front_pages c =
     let none : List ℕ = [] in
     let shown = ap (λ (e : Extent). e.count) c.self.view_is in
     let count : length (untold c.args.self.now.count) ≡ c.args.self.now.count = length-replicate c.args.self.now.count none in
-    sym (take-replicate c.args.n c.self.inside.count none (omega (arith, shown, count, c.requires.fewer))) ∙ ap (λ k. take c.args.n (untold k)) shown
+    sym (take-replicate c.args.n c.self.inside.count none (omega (arith, shown, count, c.requires.fewer)))
+    ∙ ap (λ k. take c.args.n (untold k)) shown
 
 pub returns-clause-rest_pages : goal.returns-clause-rest_pages
 returns-clause-rest_pages c =

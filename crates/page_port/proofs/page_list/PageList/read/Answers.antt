@@ -29,6 +29,7 @@ loop-j-preserved c =
       copied =
           ap (λ page. take (c.loop-j.at + c.args.size) (put_mid c.loop-j.at (c.loop-j.at + c.args.size - c.loop-j.at) c.loop-j.out page))
           (c.copy_from_slice.ensures.after ∙ c.as_slice.ensures.value)
-          ∙ copied-more c.args.self.now c.args.from c.loop-j.j c.args.size c.loop-j.at _ c.loop-j.out _ _ first c.loop-j.invariant.copied sized
+          ∙ copied-more c.args.self.now c.args.from c.loop-j.j c.args.size c.loop-j.at _ c.loop-j.out _ _ first
+          c.loop-j.invariant.copied sized
           (add-sub_cancel_left c.loop-j.at c.args.size) (omega (arith, fits, c.loop-j.auto.out));
     }

@@ -4,7 +4,8 @@ use Rattle.plain_moment.proofs.plain_store.PlainStore.take.Goals as goal
 
 pub returns-then-is_look-clause-taking : goal.returns-then-is_look-clause-taking
 returns-then-is_look-clause-taking c =
-    taken_ok _ _ _ c.args.session c.args.object _ c.self.view_is c.step-reply.ensures.step (sym c.is_look.ensures ∙ c.if-is_look.true) refl c.hold.ensures refl
+    taken_ok _ _ _ c.args.session c.args.object _ c.self.view_is c.step-reply.ensures.step (sym c.is_look.ensures
+    ∙ c.if-is_look.true) refl c.hold.ensures refl
 
 pub returns-clause-taking : goal.returns-clause-taking
 returns-clause-taking c =

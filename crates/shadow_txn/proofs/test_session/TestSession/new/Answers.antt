@@ -18,10 +18,17 @@ invariant_of-result g c =
     let slots : length c.in-Ok.shelf ≡ length objects = ap length shelf ∙ length-map objects Some in
     let told : c.in_ok-txn.txn.objects ≡ c.len.result = ap (λ (t : Transaction (PlainObject g.row.H.Denot)). t.objects) txn in
     let none : c.in_ok-txn.txn.held ≡ [] = ap (λ (t : Transaction (PlainObject g.row.H.Denot)). t.held) txn in (
-      serves-solo g.H.Annals.told g.H.Annals.last c.in_ok-txn.txn c.in-Ok.shelf none (omega (arith, slots, told, c.len.ensures, c.args.objects.ok.0)),
+      serves-solo g.H.Annals.told g.H.Annals.last c.in_ok-txn.txn c.in-Ok.shelf none (omega (
+        arith,
+        slots,
+        told,
+        c.len.ensures,
+        c.args.objects.ok.0,
+      )),
       (
         terms,
-        subst (λ xs. AreSuited (λ _. []) (IsLegalObject g.H.Annals.told) xs terms) (sym shelf) (fresh_suited g.H.Annals.told objects c.requires.new),
+        subst (λ xs. AreSuited (λ _. []) (IsLegalObject g.H.Annals.told) xs terms) (sym shelf)
+            (fresh_suited g.H.Annals.told objects c.requires.new),
         agree-none g.H.Annals.tells g.H.Annals.told terms c.in_ok-txn.txn none refl,
       ),
     )

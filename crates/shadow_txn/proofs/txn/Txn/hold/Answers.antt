@@ -1,4 +1,5 @@
 use Rattle.std.proofs.Common.{◌≡◌, ℕ, ◌++◌, ◌∷◌, [], length, ap, sym, ◌∙◌, None, subst, arith, List, slice_index_or}
+use Rattle.base_laws.proofs.OptionLaws.{none-unless}
 use Rattle.eos_ops.specs.declared.act.Act.{Act}
 use Rattle.eos_ops.specs.declared.plain.Plain.TheVariants.{Absent}
 use Rattle.shadow_txn.specs.Acts.{IsLed}
@@ -8,26 +9,37 @@ use Rattle.shadow_txn.specs.declared.held.Held.{Held}
 use Rattle.shadow_txn.specs.declared.plain_object.PlainObject.{PlainObject}
 use Rattle.shadow_txn.specs.Serving.{Serves, Agree}
 use Rattle.shadow_txn.specs.Transaction.{Transaction, holding}
-use Rattle.shadow_txn.specs.Held.{object_in}
-use Rattle.shadow_txn.specs.Taking.{IsTaken}
-use Rattle.shadow_txn.proofs.ServingLemmas.{sound-push, serves-push, agree-push, none_of}
+use Rattle.shadow_txn.specs.Held.{held_object}
+use Rattle.shadow_txn.specs.Taking.{HasTaken}
+use Rattle.shadow_txn.proofs.ServingLemmas.{sound-push, serves-push, agree-push}
 use Rattle.shadow_txn.proofs.txn.Txn.hold.Goals as goal
 
 -- the object wasn't held
-away : (g : _) (c : goal.After-push_reserved g) → object_in c.args.o c.args.self.now.held ≡ None
-away g c = none_of _ (sym c.holds.ensures ∙ c.if-holds.false)
+away : (g : _) (c : goal.After-push_reserved g) → held_object c.args.o c.args.self.now.held ≡ None
+away g c = none-unless _ (sym c.holds.ensures ∙ c.if-holds.false)
 
 -- and was taken under its number
 taken : (g : _) (c : goal.After-push_reserved g)
-    → IsTaken g.H.Annals.told g.H.Annals.last g.H.Annals.spare c.args.o c.in_ok-object.object (g.X.Shelf.shelving c.args.shelf.now) (g.X.Shelf.shelving c.take_ready.new.shelf)
-taken g c = subst (λ n. IsTaken g.H.Annals.told g.H.Annals.last g.H.Annals.spare n c.in_ok-object.object (g.X.Shelf.shelving c.args.shelf.now) (g.X.Shelf.shelving c.take_ready.new.shelf)) c.in_ok-number.ensures.ok.0 c.in_ok-object.ensures.ok
+    → HasTaken g.H.Annals.told g.H.Annals.last g.H.Annals.spare c.args.o c.in_ok-object.object
+    (g.X.Shelf.shelving c.args.shelf.now) (g.X.Shelf.shelving c.take_ready.new.shelf)
+taken g c = subst (λ n. HasTaken g.H.Annals.told g.H.Annals.last g.H.Annals.spare n c.in_ok-object.object
+    (g.X.Shelf.shelving c.args.shelf.now) (g.X.Shelf.shelving c.take_ready.new.shelf)) c.in_ok-number.ensures.ok.0
+    c.in_ok-object.ensures.ok
 
 -- the transaction holds it behind the others
 whole : (g : _) (c : goal.After-push_reserved g)
-    → record { session = c.self.inside.session; objects = c.self.inside.objects; is_open = c.self.inside.active; number = c.self.inside.number; stamp = c.self.inside.stamp; held = c.push_reserved.new.self.items }
+    → record {
+      session = c.self.inside.session;
+      objects = c.self.inside.objects;
+      is_open = c.self.inside.active;
+      number = c.self.inside.number;
+      stamp = c.self.inside.stamp;
+      held = c.push_reserved.new.self.items;
+    }
     ≡ holding c.args.self.now (c.args.self.now.held ++ record { number = c.args.o; object = c.in_ok-object.object; acts = [] } ∷ [])
 whole g c =
-    let one : ℕ → List Act → Held (PlainObject g.row.H.Denot) = λ n acts. record { number = n; object = c.in_ok-object.object; acts = acts } in
+    let one : ℕ → List Act → Held (PlainObject g.row.H.Denot) =
+    λ n acts. record { number = n; object = c.in_ok-object.object; acts = acts } in
     rw c.push_reserved.ensures.items
     (ap (λ t. holding t (t.held ++ one c.in_ok-number.number c.new.result ∷ [])) c.self.view_is
     ∙ ap (λ n. holding c.args.self.now (c.args.self.now.held ++ one n c.new.result ∷ [])) c.in_ok-number.ensures.ok.0
@@ -40,18 +52,22 @@ invariant_of-self g c =
     let open_now = ap (λ t. t.is_open) c.self.view_is ∙ c.requires.open in
     let objects = ap (λ t. t.objects) c.self.view_is in
     let count = ap (λ t. length t.held) c.self.view_is in
-    let free = ap (λ t. object_in c.in_ok-number.number t.held) c.self.view_is ∙ ap (λ n. object_in n c.args.self.now.held) number.0 ∙ away g c in
+    let free = ap (λ t. held_object c.in_ok-number.number t.held) c.self.view_is
+    ∙ ap (λ n. held_object n c.args.self.now.held) number.0 ∙ away g c in
     rw (c.push_reserved.ensures.items, c.push_reserved.ensures.capacity)
-    (sound-push (λ x. g.H.Annals.spare x.annals) (λ x. g.H.Annals.last x.annals) (IsLed g.H.Annals.tells g.H.Annals.told g.H.Annals.last) _ _
+    (sound-push (λ x. g.H.Annals.spare x.annals) (λ x. g.H.Annals.last x.annals)
+    (IsLed g.H.Annals.tells g.H.Annals.told g.H.Annals.last) _ _
     (record { number = c.in_ok-number.number; object = c.in_ok-object.object; acts = c.new.result })
     c.self.invariant open_now free (omega (arith, objects, number.0, number.1)) (omega (arith, count, number.2)) object.room object.left
     (rw c.new.ensures (led-new g.H.Annals.tells g.H.Annals.told g.H.Annals.last c.in_ok-object.object object.rests object.ages)))
 
 pub returns-clause-agree : goal.returns-clause-agree
 returns-clause-agree g c = λ t under agree.
-    let legal = subst (λ n. IsLegalObject g.H.Annals.told (slice_index_or t.opened n Absent) c.in_ok-object.object) c.in_ok-number.ensures.ok.0 (c.in_ok-object.ensures.legal t under) in
+    let legal = subst (λ n. IsLegalObject g.H.Annals.told (slice_index_or t.opened n Absent) c.in_ok-object.object)
+    c.in_ok-number.ensures.ok.0 (c.in_ok-object.ensures.legal t under) in
     subst (λ (x : Transaction (PlainObject g.row.H.Denot)). Agree g.H.Annals.tells g.H.Annals.told t x.held) (sym (whole g c))
-    (agree-push g.H.Annals.tells g.H.Annals.told t (record { number = c.args.o; object = c.in_ok-object.object; acts = [] }) c.args.self.now.held legal agree)
+    (agree-push g.H.Annals.tells g.H.Annals.told t
+    (record { number = c.args.o; object = c.in_ok-object.object; acts = [] }) c.args.self.now.held legal agree)
 
 pub returns-clause-ok : goal.returns-clause-ok
 returns-clause-ok g c = λ none. record { object = c.in_ok-object.object; taken = taken g c; held = whole g c }
@@ -59,4 +75,5 @@ returns-clause-ok g c = λ none. record { object = c.in_ok-object.object; taken 
 pub returns-clause-serves : goal.returns-clause-serves
 returns-clause-serves g c =
     subst (λ t. Serves g.H.Annals.told g.H.Annals.last t (g.X.Shelf.shelving c.take_ready.new.shelf)) (sym (whole g c))
-    (serves-push g.H.Annals.told g.H.Annals.last g.H.Annals.spare c.args.self.now c.args.o c.in_ok-object.object _ _ c.requires.serves (taken g c) (away g c))
+    (serves-push g.H.Annals.told g.H.Annals.last g.H.Annals.spare c.args.self.now c.args.o c.in_ok-object.object _ _
+    c.requires.serves (taken g c) (away g c))

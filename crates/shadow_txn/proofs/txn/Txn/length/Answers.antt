@@ -3,38 +3,50 @@ use Rattle.std.proofs.Common.{◌≡◌, ap, sym, ◌∙◌, subst, slice_set, S
 use Rattle.eos_ops.specs.declared.command.Command.TheVariants as command
 use Rattle.shadow_txn.specs.declared.plain_object.PlainObject.{PlainObject}
 use Rattle.shadow_txn.specs.Acts.{IsLed, noted}
-use Rattle.shadow_txn.specs.Held.{object_in, IsPlace}
+use Rattle.shadow_txn.specs.Held.{held_object, IsFirstAt}
 use Rattle.shadow_txn.specs.Replies.{length_reply}
 use Rattle.shadow_txn.specs.Serving.{Serves, Agree}
 use Rattle.shadow_txn.specs.Transaction.{Transaction, holding, noting}
 use Rattle.shadow_txn.proofs.ActLemmas.{led-length, or_memory}
-use Rattle.shadow_txn.proofs.HeldLemmas.{at_place, object_in-at, noting-same}
+use Rattle.shadow_txn.proofs.HeldLemmas.{at_place, held_object-at, noting-same}
 use Rattle.shadow_txn.proofs.ServingLemmas.{sound-set, serves-noting, agree-noting}
 use Rattle.shadow_txn.proofs.txn.Txn.length.Goals as goal
 
 -- o stands at the place
-place : (g : _) (c : goal.After-self-1 g) → IsPlace c.self.inside.held.items c.args.o c.in-Some.i
-place g c = subst (λ held. IsPlace held c.args.o c.in-Some.i) c.deref.ensures.value c.in-Some.ensures.found
+place : (g : _) (c : goal.After-self-1 g) → IsFirstAt c.self.inside.held.items c.args.o c.in-Some.i
+place g c = subst (λ held. IsFirstAt held c.args.o c.in-Some.i) c.deref.ensures.value c.in-Some.ensures.found
 
 number : (g : _) (c : goal.After-self-1 g) → c.index_mut.result.now.number ≡ c.args.o
 number g c = (at_place c.self.inside.held.items c.args.o c.in-Some.i c.index_mut.result.now (place g c) c.index_mut.ensures.value).1
 
-at : (g : _) (c : goal.After-self-1 g) → object_in c.args.o c.args.self.now.held ≡ Some c.index_mut.result.now.object
+at : (g : _) (c : goal.After-self-1 g) → held_object c.args.o c.args.self.now.held ≡ Some c.index_mut.result.now.object
 at g c =
-    sym (ap (λ t. object_in c.args.o t.held) c.self.view_is)
-    ∙ object_in-at c.self.inside.held.items c.args.o c.in-Some.i c.index_mut.result.now (place g c) c.index_mut.ensures.value
+    sym (ap (λ t. held_object c.args.o t.held) c.self.view_is)
+    ∙ held_object-at c.self.inside.held.items c.args.o c.in-Some.i c.index_mut.result.now (place g c) c.index_mut.ensures.value
 
 -- the transaction when its fields are open
 abbrev open_txn : (g : _) (c : goal.After-self-1 g) → Transaction (PlainObject g.row.H.Denot)
-open_txn g c = record { session = c.self.inside.session; objects = c.self.inside.objects; is_open = c.self.inside.active; number = c.self.inside.number; stamp = c.self.inside.stamp; held = c.self.inside.held.items }
+open_txn g c = record {
+  session = c.self.inside.session;
+  objects = c.self.inside.objects;
+  is_open =
+      c.self.inside.active;
+  number = c.self.inside.number;
+  stamp = c.self.inside.stamp;
+  held =
+      c.self.inside.held.items;
+}
 
 -- as before, with the act
 whole : (g : _) (c : goal.After-self-1 g)
-    → holding (open_txn g c) (slice_set c.self.inside.held.items c.in-Some.i c.length.new.self) ≡ noting c.args.o (noted g.H.Annals.tells (command.Length c.args.o) (length_reply c.length.result)) c.args.self.now
+    → holding (open_txn g c) (slice_set c.self.inside.held.items c.in-Some.i c.length.new.self)
+    ≡ noting c.args.o (noted g.H.Annals.tells (command.Length c.args.o)
+    (length_reply c.length.result)) c.args.self.now
 whole g c =
     let h = c.index_mut.result.now in
     ap (λ k. holding (open_txn g c) (slice_set c.self.inside.held.items c.in-Some.i k)) c.length.ensures.same
-    ∙ noting-same (open_txn g c) c.args.o c.in-Some.i h (noted g.H.Annals.tells (command.Length h.number) (length_reply c.length.result)) (place g c) c.index_mut.ensures.value
+    ∙ noting-same (open_txn g c) c.args.o c.in-Some.i h (noted g.H.Annals.tells (command.Length h.number)
+    (length_reply c.length.result)) (place g c) c.index_mut.ensures.value
     ∙ ap (noting c.args.o (noted g.H.Annals.tells (command.Length h.number) (length_reply c.length.result))) c.self.view_is
     ∙ ap (λ n. noting c.args.o (noted g.H.Annals.tells (command.Length n) (length_reply c.length.result)) c.args.self.now) (number g c)
 
@@ -42,8 +54,10 @@ pub invariant_of-self : goal.invariant_of-self
 invariant_of-self g c =
     let h = c.index_mut.result.now in
     rw c.length.ensures.same
-    (sound-set (λ x. g.H.Annals.spare x.annals) (λ x. g.H.Annals.last x.annals) (IsLed g.H.Annals.tells g.H.Annals.told g.H.Annals.last) _ (open_txn g c) c.args.o c.in-Some.i h h.object
-    (noted g.H.Annals.tells (command.Length h.number) (length_reply c.length.result)) c.self.invariant (place g c) c.index_mut.ensures.value refl refl
+    (sound-set (λ x. g.H.Annals.spare x.annals) (λ x. g.H.Annals.last x.annals)
+    (IsLed g.H.Annals.tells g.H.Annals.told g.H.Annals.last) _ (open_txn g c) c.args.o c.in-Some.i h h.object
+    (noted g.H.Annals.tells (command.Length h.number)
+    (length_reply c.length.result)) c.self.invariant (place g c) c.index_mut.ensures.value refl refl
     (led-length g.H.Annals.tells g.H.Annals.told g.H.Annals.last h.object h.acts h.number c.length.result c.length.ensures.reply))
 
 pub returns-clause-reply : goal.returns-clause-reply
@@ -54,8 +68,10 @@ returns-clause-same g c = whole g c
 
 pub returns-clause-serves : goal.returns-clause-serves
 returns-clause-serves g c = λ shelf s.
-    subst (λ t. Serves g.H.Annals.told g.H.Annals.last t shelf) (sym (whole g c)) (serves-noting g.H.Annals.told g.H.Annals.last c.args.self.now c.args.o _ shelf s)
+    subst (λ t. Serves g.H.Annals.told g.H.Annals.last t shelf) (sym (whole g c))
+    (serves-noting g.H.Annals.told g.H.Annals.last c.args.self.now c.args.o _ shelf s)
 
 pub returns-clause-agree : goal.returns-clause-agree
 returns-clause-agree g c = λ t fits.
-    subst (λ (x : Transaction (PlainObject g.row.H.Denot)). Agree g.H.Annals.tells g.H.Annals.told t x.held) (sym (whole g c)) (agree-noting g.H.Annals.tells g.H.Annals.told t c.args.self.now c.args.o _ fits)
+    subst (λ (x : Transaction (PlainObject g.row.H.Denot)). Agree g.H.Annals.tells g.H.Annals.told t x.held)
+    (sym (whole g c)) (agree-noting g.H.Annals.tells g.H.Annals.told t c.args.self.now c.args.o _ fits)

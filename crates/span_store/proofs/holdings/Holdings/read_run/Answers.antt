@@ -8,14 +8,18 @@ use Rattle.span_store.proofs.Holds.{each_sized}
 use Rattle.span_store.proofs.holdings.Holdings.read_run.Goals as goal
 
 pub read_spans-requires-clause-sized : goal.read_spans-requires-clause-sized
-read_spans-requires-clause-sized g c κs within =
+read_spans-requires-clause-sized g c =
     let size = (g.P.Port.meter c.args.port.now).page in
     let all = subst (λ (h : Held). AllSized g.S.Span.tells size h) (sym c.self.view_is) c.requires.sized in
     let each = each_sized g.S.Span.tells size (spans_of g.S.Span.start g.S.Span.contents c.self.inside.spans.items) c.self.invariant all in
-    subst (λ (xs : List _). EachSized g.S.Span.tells size (spans_of g.S.Span.start g.S.Span.contents xs)) (sym c.as_slice.ensures.value) each
+    subst (λ (xs : List _). EachSized g.S.Span.tells size (spans_of g.S.Span.start g.S.Span.contents xs))
+    (sym c.as_slice.ensures.value) each
 
 pub returns-clause-bytes : goal.returns-clause-bytes
 returns-clause-bytes g c =
     let n = length c.args.out.now / (g.P.Port.meter c.args.port.now).page in
-    subst (λ (h : Held). OnOk c.read_spans.result (IsTrue g.S.Span.tells → c.read_spans.new.out ≡ run_bytes (bytes_on h) c.args.first n)) c.self.view_is
-    (subst (λ (xs : List _). OnOk c.read_spans.result (IsTrue g.S.Span.tells → c.read_spans.new.out ≡ run_bytes (bytes_in (spans_of g.S.Span.start g.S.Span.contents xs)) c.args.first n)) c.as_slice.ensures.value c.read_spans.ensures.bytes)
+    subst (λ (h : Held). OnOk c.read_spans.result (IsTrue g.S.Span.tells →
+    c.read_spans.new.out ≡ run_bytes (bytes_on h) c.args.first n)) c.self.view_is
+    (subst (λ (xs : List _). OnOk c.read_spans.result (IsTrue g.S.Span.tells →
+    c.read_spans.new.out ≡ run_bytes (bytes_in (spans_of g.S.Span.start g.S.Span.contents xs)) c.args.first n))
+    c.as_slice.ensures.value c.read_spans.ensures.bytes)

@@ -7,7 +7,8 @@ use Rattle.world.proofs.Steps.{step-idle, step-closes}
 use Rattle.world.proofs.plain_world.PlainWorld.close.Goals as goal
 
 pub returns-then-not-is_open-clause-step : goal.returns-then-not-is_open-clause-step
-returns-then-not-is_open-clause-step c = step-idle c.args.self.now c.args.session c.args.committed (sym c.is_open.ensures.active ∙ c.if-not-is_open.true)
+returns-then-not-is_open-clause-step c = step-idle c.args.self.now c.args.session c.args.committed
+    (sym c.is_open.ensures.active ∙ c.if-not-is_open.true)
 
 pub returns-clause-step : goal.returns-clause-step
 returns-clause-step c =

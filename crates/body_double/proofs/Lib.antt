@@ -1,0 +1,3 @@
+mod SpareLemmas
+mod PageTables
+mod PageLemmas

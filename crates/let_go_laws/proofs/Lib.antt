@@ -1,0 +1,2 @@
+pub mod LetGoLemmas
+mod Worked

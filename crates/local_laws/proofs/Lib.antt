@@ -1,0 +1,4 @@
+pub mod CutLemmas
+pub mod PathLemmas
+pub mod LeftLemmas
+mod Worked

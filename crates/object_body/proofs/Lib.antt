@@ -1,0 +1,4 @@
+pub mod LengthLemmas
+pub mod MoveLemmas
+pub mod CallLemmas
+pub mod TurnLemmas

@@ -1,0 +1,7 @@
+pub mod Lengths
+pub mod Form
+pub mod Places
+pub mod Moves
+pub mod Calls
+pub mod Stored
+pub mod Object

@@ -1,0 +1,2 @@
+pub mod RefusalLemmas
+mod Worked

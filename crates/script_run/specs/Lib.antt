@@ -1,0 +1,5 @@
+pub mod Ends
+pub mod Headline
+pub mod Long
+pub mod Served
+pub mod Status

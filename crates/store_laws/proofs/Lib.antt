@@ -1,0 +1,5 @@
+pub mod AnswerLemmas
+pub mod LengthLemmas
+pub mod SoundLemmas
+pub mod StepLemmas
+mod Worked

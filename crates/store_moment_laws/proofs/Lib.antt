@@ -1,0 +1,4 @@
+pub mod FirstLemmas
+pub mod EachLemmas
+pub mod CountLemmas
+mod Worked

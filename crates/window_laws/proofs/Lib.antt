@@ -1,0 +1,5 @@
+pub mod CountLemmas
+pub mod WindowLemmas
+pub mod StretchLemmas
+pub mod SearchLemmas
+mod Worked
