@@ -1,3 +1,4 @@
 mod SpareLemmas
 mod PageTables
 mod PageLemmas
+mod KeptLemmas

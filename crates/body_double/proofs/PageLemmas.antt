@@ -1,13 +1,12 @@
 -- What becomes of the spaces, and of what the object shows, where a version takes a page, drops one, or an end comes.
-use Rattle.std.proofs.Common.{IfSome, Result, if◌then◌else◌, ◌≡◌, ℕ, zero, suc, ◌+◌, ◌-◌, ◌<◌, ◌≤◌, Bool, true}
-use Rattle.std.proofs.Common.{false, not, ◌&&◌, ◌||◌, IsTrue, List, [], ◌∷◌, length, Option, Some, None, Ok, Err}
+use Rattle.std.proofs.Common.{IfSome, Result, if◌then◌else◌, ◌≡◌, ℕ, ◌+◌, ◌<◌, Bool, true}
+use Rattle.std.proofs.Common.{false, not, ◌&&◌, ◌||◌, IsTrue, List, [], length, Option, Some, None, Ok, Err}
 use Rattle.std.proofs.Common.{refl, sym, ap, subst, arith, ◌∙◌, inl, inr, nat_eq, nat_lt, nat_le, is_some, is_none}
 use Rattle.std.proofs.lemmas.Bool.{and_parts, ltb-true, leb-true, cases_Bool}
 use Rattle.eos_ops.specs.declared.edit.Edit.{Edit}
 use Rattle.eos_ops.specs.declared.edit.Edit.TheVariants.{Create, Destroy, Append, Insert, Delete, Replace}
 use Rattle.eos_ops.specs.declared.outcome.Outcome.{Outcome}
 use Rattle.eos_ops.specs.declared.outcome.Outcome.TheVariants.{Done}
-use Rattle.eos_ops.specs.declared.plain.Plain.{Plain}
 use Rattle.eos_ops.specs.Edits.{outcome_in, edited}
 use Rattle.eos_ops.proofs.EditLemmas.{edited-refused}
 use Rattle.fault_count.specs.Counts.{Meter}
@@ -15,25 +14,25 @@ use Rattle.geometry_model.specs.Numbers.{Numbers}
 use Rattle.geometry_model.specs.Pages.{IsPlace}
 use Rattle.block_model.specs.Place.{least_order}
 use Rattle.layout_model.specs.declared.extent.Extent.{Extent}
-use Rattle.layout_model.specs.Grants.{Spaces, Answer, Got, Refused, and_then, run_of, spot_in, around}
+use Rattle.layout_model.specs.Grants.{Spaces, Got, Refused, and_then, run_of}
 use Rattle.moment_model.specs.Version.{version_uses, covers}
 use Rattle.std.proofs.lemmas.List.Sums.{sum_by-cons}
-use Rattle.moment_model.specs.Moment.{ObjectSlot, committed_uses, working_uses, either_uses, count_true}
-use Rattle.moment_model.specs.Edit.{with_working, edited_length}
+use Rattle.moment_model.specs.Moment.{ObjectSlot, either_uses, count_true}
+use Rattle.moment_model.specs.Edit.{with_working}
 use Rattle.moment_laws.specs.Change.{free_after, locked_after}
-use Rattle.space_directory.specs.SpaceView.{SpaceView, after_give, after_lock, after_unlock}
+use Rattle.space_directory.specs.SpaceView.{SpaceView}
 use Rattle.space_directory.proofs.PageLaws.{in_run}
-use Rattle.superdirectory.specs.Grants.{AreTold, IsRunIn, UsesSpace, KeepsFrame, IsSegmentIn, IsExact, free_sets}
+use Rattle.superdirectory.specs.Grants.{AreTold, IsRunIn, UsesSpace, KeepsFrame, free_sets}
 use Rattle.superdirectory.specs.Rest.{Frame, Rest, count}
 use Rattle.superdirectory.specs.Trace.{SpaceEvent, Part, AreEnters, IsEntered, IsSearched, IsLow}
 use Rattle.superdirectory.proofs.Traces.{part_none, part_then, part_as, enters_none, enters_more}
 use Rattle.object_body.specs.declared.fails.EditFail.{EditFail}
 use Rattle.object_body.specs.declared.fails.EditFail.TheVariants.{NoSpace, Fault, Memory}
 use Rattle.object_body.specs.Form.{Form, Contents, AreTied, settled_form, settled_contents, undone_form, undone_contents}
-use Rattle.object_body.specs.Lengths.{length_of, outcome_of}
+use Rattle.object_body.specs.Lengths.{length_of}
 use Rattle.object_body.specs.Places.{IsStore, IsReady, AreHome, is_free_place, is_locked_place}
-use Rattle.object_body.specs.Moves.{MovesTold, IsUntouched, locks}
-use Rattle.object_body.specs.Calls.{Stage, IsEdit, IsEditedForm, IsBodyEnd, IsExplained, AreLow, slot_in, pages_in}
+use Rattle.object_body.specs.Moves.{MovesTold, locks}
+use Rattle.object_body.specs.Calls.{Stage, IsEdit, IsBodyEnd, IsExplained, AreLow, slot_in, pages_in}
 use Rattle.object_body.proofs.LengthLemmas.{outcome-by_length, length-edited}
 use Rattle.object_body.proofs.MoveLemmas.{same-moves, same-untouched}
 use Rattle.object_body.proofs.CallLemmas.{keeps-frame, used-not, cause-none, no-memory}
@@ -41,11 +40,11 @@ use Rattle.object_body.proofs.TurnLemmas.{Turn, IsTurned, over_run, given_free, 
 use Rattle.object_body.proofs.TurnLemmas.{locked_more, same_free, same_locked, IsGrantTurn, turned-given}
 use Rattle.object_body.proofs.TurnLemmas.{turned-locked, turned-unlocked, turned-not, turned-then, turned-moves}
 use Rattle.object_body.proofs.TurnLemmas.{turned-back, grant-turned, grant-answer, grant-refused}
-use Rattle.body_double.specs.Kind.{OwnPage, plain_if, HaveLengths, IsOwn, spare_destroyed}
+use Rattle.body_double.specs.Kind.{OwnPage, plain_if, HaveLengths, IsOwn}
 use Rattle.body_double.specs.Page.{PageView, working_page, page_tree, page_version, pages_form, pages_contents}
-use Rattle.body_double.specs.Page.{page_form, page_contents, page_placed, page_created, page_moved, lays_page}
-use Rattle.body_double.specs.Page.{Places, AreApart, IsHolding, UsesPage, UsesDropped, giving, locking, unlocking}
-use Rattle.body_double.specs.Page.{IsGrantedPage, IsNoPage, IsBackAgain, IsNotAsked}
+use Rattle.body_double.specs.Page.{page_form, page_contents, page_placed, lays_page}
+use Rattle.body_double.specs.Page.{Places, BeginApart, IsHolding, UsesPage, UsesDropped, giving, locking, unlocking}
+use Rattle.body_double.specs.Page.{IsGrantedPage, IsBackAgain, IsNotAsked}
 use Rattle.body_double.proofs.SpareLemmas.{covers-bit, spare_bit, own-run, RefusesOne, WritesNone, release-enters}
 use Rattle.body_double.proofs.PageTables.{free_bits, locked_bits, placed-none, placed-committed, placed-fresh}
 use Rattle.body_double.proofs.PageTables.{dropped-fresh, dropped-committed, dropped-none, settled-bits, undone-bits}
@@ -184,7 +183,7 @@ run-one first page is_in =
     let high = ltb-true page (first + 1) parts.1 in
     omega (arith, low, high)
 
-apart-bits : (c x : Option OwnPage) → AreApart c x → (page : ℕ) → spare_bit c page ≡ true → spare_bit x page ≡ false
+apart-bits : (c x : Option OwnPage) → BeginApart c x → (page : ℕ) → spare_bit c page ≡ true → spare_bit x page ≡ false
 apart-bits None x apart page is = absurd cc
 apart-bits (Some own) None apart page is = refl
 apart-bits (Some own) (Some other) apart page is = elim (cases_Bool (in_run other.first 1 page)) [
@@ -297,7 +296,7 @@ drop-part None committed dropped old new before after used =
 
 -- the working version is gone
 drop-moves : (n : Numbers) (frame : Frame) (views : List SpaceView) (fresh committed : Option OwnPage)
-    (dropped : Bool) (rest : Rest) → AreApart committed fresh →
+    (dropped : Bool) (rest : Rest) → BeginApart committed fresh →
     IsTurned n frame views (drop_free fresh) (drop_locked fresh committed dropped) rest →
     MovesTold n frame views (slot_pages committed (working_page committed fresh dropped)) (slot_pages committed None) rest
 drop-moves n frame views (Some own) committed dropped rest apart turned =
@@ -324,7 +323,7 @@ Granted own page f l = (in_run own.first 1 page ≡ true → f ≡ true) × (in_
 place-moves : (tells : Bool) (n : Numbers) (frame : Frame) (views : List SpaceView) (start : ℕ) (own : OwnPage)
     (fresh committed : Option OwnPage) (dropped : Bool) (middle new : Rest)
     (between after : Option (List SpaceEvent)) →
-    middle.frame ≡ frame → IsStore n frame → IfSome fresh (IsOwn tells n) → IfSome committed (IsOwn tells n) → AreApart committed fresh →
+    middle.frame ≡ frame → IsStore n frame → IfSome fresh (IsOwn tells n) → IfSome committed (IsOwn tells n) → BeginApart committed fresh →
     IsGrantTurn n frame views start own.first 1 middle → UsesDropped fresh committed dropped middle new between after →
     MovesTold n frame views (slot_pages committed (working_page committed fresh dropped)) (slot_pages committed (Some own)) new
 place-moves tells n frame views start own (Some x) committed dropped middle new between after same store owned kept apart granted used =
@@ -700,7 +699,7 @@ working-dropped c None true is = refl
 working-dropped c None false is = absurd cc
 
 settled : (tells : Bool) (n : Numbers) (c x w : Option OwnPage) (rests : Bool) (old new : Rest)
-    (before after : Option (List SpaceEvent)) → w ≡ x → IfSome c (IsOwn tells n) → AreApart c x →
+    (before after : Option (List SpaceEvent)) → w ≡ x → IfSome c (IsOwn tells n) → BeginApart c x →
     IsReady n old → UsesPage giving c old new before after →
     IsBodyEnd tells HaveLengths (settled_form (pages_form n c w rests)) (settled_contents (pages_contents c w))
     (record { form = pages_form n c w rests; told = pages_contents c w; rest = old; trace = before })
@@ -727,7 +726,7 @@ settled tells n c x w rests old new before after is owned apart ready used =
 undone : (tells : Bool) (n : Numbers) (c x w : Option OwnPage) (rests : Bool) (old middle new : Rest)
     (before between after : Option (List SpaceEvent)) → w ≡ x → IfSome c (IsOwn tells n) →
     IfSome x (IsOwn tells n) →
-    AreApart c x → IsReady n old → UsesPage giving x old middle before between → UsesPage unlocking c middle new between after →
+    BeginApart c x → IsReady n old → UsesPage giving x old middle before between → UsesPage unlocking c middle new between after →
     IsBodyEnd tells HaveLengths (undone_form (pages_form n c w rests)) (undone_contents (pages_contents c w))
     (record { form = pages_form n c w rests; told = pages_contents c w; rest = old; trace = before })
     (record { form = pages_form n c c true; told = pages_contents c c; rest = new; trace = after })

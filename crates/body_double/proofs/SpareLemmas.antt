@@ -1,7 +1,7 @@
 -- What becomes of the spaces, and of what the object shows, where the spare page comes and goes.
-use Rattle.std.proofs.Common.{IfSome, Result, if◌then◌else◌, ◌≡◌, ℕ, suc, ◌+◌, ◌-◌, ◌<◌, ◌≤◌, Bool, true, false}
-use Rattle.std.proofs.Common.{not, ◌&&◌, ◌||◌, IsTrue, List, [], ◌∷◌, length, Option, Some, None, Ok, Err, refl}
-use Rattle.std.proofs.Common.{sym, ap, subst, arith, ◌∙◌, inl, inr, nat_eq, nat_lt}
+use Rattle.std.proofs.Common.{IfSome, Result, if◌then◌else◌, ◌≡◌, ℕ, ◌-◌, ◌<◌, Bool, true, false}
+use Rattle.std.proofs.Common.{not, ◌&&◌, ◌||◌, List, [], length, Option, Some, None, Ok, Err, refl}
+use Rattle.std.proofs.Common.{sym, ap, subst, arith, ◌∙◌, nat_eq, nat_lt}
 use Rattle.eos_ops.specs.declared.edit.Edit.{Edit}
 use Rattle.eos_ops.specs.declared.edit.Edit.TheVariants.{Create, Destroy, Append, Insert, Delete, Replace}
 use Rattle.eos_ops.specs.declared.outcome.Outcome.{Outcome}
@@ -17,8 +17,7 @@ use Rattle.object_body.specs.declared.fails.EditFail.TheVariants.{NoSpace, Fault
 use Rattle.object_body.specs.Lengths.{length_of}
 use Rattle.eos_ops.proofs.EditLemmas.{edited-refused}
 use Rattle.object_body.proofs.LengthLemmas.{outcome-by_length, length-edited}
-use Rattle.geometry_model.specs.Numbers.{Numbers, space_pages}
-use Rattle.geometry_model.specs.Pages.{IsPlace, IsInSpace, first_page}
+use Rattle.geometry_model.specs.Numbers.{Numbers}
 use Rattle.space_directory.specs.SpaceView.{SpaceView, after_give}
 use Rattle.space_directory.proofs.PageLaws.{in_run}
 use Rattle.superdirectory.specs.Grants.{AreTold, IsRunIn, UsesSpace, KeepsFrame, IsSegmentIn, IsExact, free_sets}
@@ -26,11 +25,11 @@ use Rattle.superdirectory.specs.Rest.{Frame, Rest, count}
 use Rattle.superdirectory.specs.Trace.{SpaceEvent, Part, AreEnters, IsEntered, IsSearched, IsLow}
 use Rattle.superdirectory.proofs.Traces.{part_none, part_as, enters_none, enters_more}
 use Rattle.moment_model.specs.Version.{version_uses, spare_uses}
-use Rattle.moment_model.specs.Moment.{ObjectSlot, committed_uses, working_uses, either_uses, count_true}
+use Rattle.moment_model.specs.Moment.{ObjectSlot, working_uses, either_uses, count_true}
 use Rattle.moment_laws.specs.Change.{free_after, locked_after}
 use Rattle.object_body.specs.Form.{Form, Contents, AreTied, settled_form, settled_contents, undone_form, undone_contents}
-use Rattle.object_body.specs.Places.{IsStore, IsReady, AreHome, is_free_place, is_locked_place}
-use Rattle.object_body.specs.Moves.{MovesTold, locks}
+use Rattle.object_body.specs.Places.{IsStore, IsReady, AreHome}
+use Rattle.object_body.specs.Moves.{MovesTold}
 use Rattle.object_body.specs.Calls.{Stage, IsEdit, IsBodyEnd, IsExplained, AreLow, slot_in, pages_in}
 use Rattle.object_body.proofs.MoveLemmas.{same-moves, same-untouched}
 use Rattle.object_body.proofs.CallLemmas.{keeps-frame, used-not, cause-none, no-memory}
@@ -38,7 +37,7 @@ use Rattle.object_body.proofs.TurnLemmas.{IsTurned, over_run, given_free, given_
 use Rattle.object_body.proofs.TurnLemmas.{IsGrantTurn, turned-given, turned-not, turned-moves, grant-turned}
 use Rattle.object_body.proofs.TurnLemmas.{grant-answer, grant-refused}
 use Rattle.body_double.specs.Kind.{OwnPage, SpareView, version_if, plain_if, run_of_page, same_bit, spare_form}
-use Rattle.body_double.specs.Kind.{spare_contents, HaveLengths, spare_created, lays_spare, IsOwn, IsOwning}
+use Rattle.body_double.specs.Kind.{spare_contents, HaveLengths, spare_created, lays_spare, IsOwn}
 
 -- ---- counts
 

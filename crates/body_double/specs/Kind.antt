@@ -1,6 +1,6 @@
 -- What an object of no byte with one spare page is to the store.
 use Rattle.std.specs.Prelude.{◌≡◌, ℕ, Bool, true, false, ◌&&◌, List, [], length, Option, Some}
-use Rattle.std.specs.Prelude.{None, is_none, IfSome, option_map, nat_eq, if◌then◌else◌}
+use Rattle.std.specs.Prelude.{None, is_none, IfSome, option_map, if◌then◌else◌}
 use Rattle.eos_ops.specs.declared.edit.Edit.{Edit}
 use Rattle.eos_ops.specs.declared.edit.Edit.TheVariants.{Create, Destroy}
 use Rattle.eos_ops.specs.declared.plain.Plain.{Plain}

@@ -1,5 +1,5 @@
 -- What an object of no byte is to the store whose versions own one page each.
-use Rattle.std.specs.Prelude.{◌≡◌, ℕ, ◌-◌, ◌<◌, Bool, true, false, ◌&&◌, not, List, [], ◌∷◌}
+use Rattle.std.specs.Prelude.{◌≡◌, ℕ, ◌-◌, Bool, true, false, ◌&&◌, not, List, [], ◌∷◌}
 use Rattle.std.specs.Prelude.{length, Option, Some, None, is_some, is_none, IfSome, option_map}
 use Rattle.std.specs.Prelude.{if◌then◌else◌}
 use Rattle.eos_ops.specs.declared.edit.Edit.{Edit}
@@ -100,16 +100,16 @@ Places (Append bytes) = bytes ≡ []
 Places edit = ⊥
 
 -- two pages that are owned are two
-abbrev pub AreApart : Option OwnPage → Option OwnPage → Type 0
-AreApart (Some own) (Some other) = own.first ≡ other.first → ⊥
-AreApart own other = Unit {0}
+abbrev pub BeginApart : Option OwnPage → Option OwnPage → Type 0
+BeginApart (Some own) (Some other) = own.first ≡ other.first → ⊥
+BeginApart own other = Unit {0}
 
 -- The owned pages are data pages of the store, and two. A fresh one is there only once the
 -- committed one is dropped.
 pub record IsHolding (tells : Bool) (v : PageView) : Type 0 where
   pub committed : IfSome v.committed (IsOwn tells v.numbers)
   pub fresh : IfSome v.fresh (IsOwn tells v.numbers)
-  pub apart : AreApart v.committed v.fresh
+  pub apart : BeginApart v.committed v.fresh
   pub dropped : v.dropped ≡ false → v.fresh ≡ None
 
 -- nothing was called where there is no page, and else its space was entered, and is what the

@@ -5,7 +5,7 @@ ghost use Rattle.std.specs.Prelude.{option_map, is_some, false};
 ghost use Rattle.page_port.specs.Pages.{IsSized};
 ghost use Rattle.superdirectory.specs.Grants.{IsRunIn};
 ghost use Rattle.superdirectory.specs.Rest.{count};
-ghost use Rattle.body_double.specs.Page.{AreApart, UsesPage, UsesDropped, IsGrantedPage};
+ghost use Rattle.body_double.specs.Page.{BeginApart, UsesPage, UsesDropped, IsGrantedPage};
 ghost use Rattle.body_double.specs.Page.{IsNotAsked, giving, locking, unlocking};
 
 use object_body::EditFail;
@@ -30,7 +30,7 @@ pub fn ask<S: Span, L: Latches<S = S>>(
     ensures granted { IfOk result (λ g. IsGrantedPage S.tells start
         (record { space = g.space; first = S.start g.span; pages = S.contents g.span })
         (L.rest latches.old) (L.rest latches.new) (L.trace latches.old) (L.trace latches.new)) }
-    ensures apart { IfOk result (λ g. AreApart
+    ensures apart { IfOk result (λ g. BeginApart
         (option_map (λ g. record {
           space = g.space;
           first = S.start g.span;

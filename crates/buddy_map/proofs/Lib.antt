@@ -1,3 +1,3 @@
-pub mod Grow
-pub mod Next
-pub mod Best
+pub mod Meaning
+pub mod Mending
+pub mod Descent

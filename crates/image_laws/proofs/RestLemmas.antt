@@ -10,7 +10,7 @@ use Rattle.moment_model.specs.Version.{Version, IsGood, IsGoodVersion, version_u
 use Rattle.moment_model.specs.Moment.{ObjectSlot, Moment, absent_slot, object_slot, committed_uses, working_uses}
 use Rattle.moment_model.specs.Moment.{all_committed, all_working, is_free, is_locked, IsAtRest, IsKept, IsSound}
 use Rattle.moment_laws.proofs.SumLemmas.{two_within}
-use Rattle.edit_laws.specs.Tail.{IsTail, HaveTails}
+use Rattle.change_laws.specs.Tail.{IsTail, HaveTails}
 use Rattle.tree_pages.specs.Levels.{slot_at_rest}
 
 -- the slots of objects at rest in these versions

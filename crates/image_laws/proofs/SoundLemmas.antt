@@ -17,7 +17,7 @@ use Rattle.tree_model.specs.Tree.{Pages, IsSegment, entries_of}
 use Rattle.layout_model.specs.Pack.{Packed}
 use Rattle.moment_model.specs.Version.{Version, IsGood, IsGoodVersion}
 use Rattle.moment_model.specs.Moment.{all_committed, is_free, is_locked, free_in, IsSound}
-use Rattle.edit_laws.specs.Tail.{HaveTails}
+use Rattle.change_laws.specs.Tail.{HaveTails}
 use Rattle.tree_pages.specs.Entry.{Entry}
 use Rattle.tree_pages.specs.Levels.{version_at, slot_at_rest, plain_at, version_plain}
 use Rattle.tree_pages.specs.Stored.{AreWithin}

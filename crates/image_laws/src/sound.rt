@@ -4,7 +4,7 @@ ghost use Rattle.std.specs.Prelude.{◌≡◌, ℕ, ◌<◌, false, List, length
 ghost use Rattle.geometry_model.specs.Numbers.{Numbers, objects};
 ghost use Rattle.moment_model.specs.Moment.{IsSound, free_in, is_locked};
 ghost use Rattle.moment_model.specs.Version.{IsGood};
-ghost use Rattle.edit_laws.specs.Tail.{HaveTails};
+ghost use Rattle.change_laws.specs.Tail.{HaveTails};
 ghost use Rattle.tree_pages.specs.Levels.{version_plain};
 ghost use Rattle.image_model.specs.Image.{IsImage, image_pages, free_of_space, moment_in};
 ghost use Rattle.image_model.specs.Image.{database_in};

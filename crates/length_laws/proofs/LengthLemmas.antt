@@ -48,13 +48,14 @@ use Rattle.moment_model.specs.Edit.{edited_length, edited_slot}
 use Rattle.moment_model.specs.Run.{Lays}
 use Rattle.moment_laws.specs.Granting.{LiesInSpace, AreSpaces, page_run, runs_of_parts}
 use Rattle.moment_laws.proofs.GrantLemmas.{granted-took}
-use Rattle.edit_laws.specs.Laying.{IsChange}
-use Rattle.edit_laws.specs.Tail.{IsTail}
-use Rattle.edit_laws.proofs.PartLemmas.{all-left, segments-have}
-use Rattle.edit_laws.proofs.RunLemmas.{HoldsPart, Matched, all_runs-hold, matched-front, matched-back, matched-from}
-use Rattle.edit_laws.proofs.LayingLemmas.{spliced_entries, IsPackedObject, merged_plan, fit-cases, extend-means}
-use Rattle.edit_laws.proofs.EditLemmas.{planned-out, granted-is, packed-object, some-run, fresh-entries}
-use Rattle.edit_laws.proofs.EditLemmas.{follow-entries, fresh-wanted, followed}
+use Rattle.change_laws.specs.Laying.{IsChange}
+use Rattle.change_laws.specs.Tail.{IsTail}
+use Rattle.change_laws.proofs.PartLemmas.{all-left, segments-have}
+use Rattle.change_laws.proofs.GotLemmas.{HoldsPart, all_runs-hold}
+use Rattle.change_laws.proofs.SegmentLemmas.{Matched, matched-front, matched-back, matched-from}
+use Rattle.change_laws.proofs.LayingLemmas.{spliced_entries, IsPackedObject, merged_plan, fit-cases, extend-means}
+use Rattle.change_laws.proofs.PlannedLemmas.{planned-out, granted-is, packed-object, some-run, fresh-entries}
+use Rattle.change_laws.proofs.PlannedLemmas.{follow-entries, fresh-wanted, followed}
 use Rattle.effect_laws.specs.Lengths.{plain_length}
 use Rattle.effect_laws.proofs.EffectLemmas.{edited-length}
 use Rattle.length_laws.specs.KeepsLength.{KeepsLength}

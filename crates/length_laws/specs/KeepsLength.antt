@@ -9,8 +9,8 @@ use Rattle.moment_model.specs.Moment.{ObjectSlot}
 use Rattle.moment_model.specs.Edit.{edited_length}
 use Rattle.moment_model.specs.Run.{Lays}
 use Rattle.moment_laws.specs.Granting.{AreSpaces}
-use Rattle.edit_laws.specs.Laying.{got_slot}
-use Rattle.edit_laws.specs.Tail.{IsTail}
+use Rattle.soundness_laws.specs.Keeping.{got_slot}
+use Rattle.change_laws.specs.Tail.{IsTail}
 
 -- An edit that was granted what it asks for leaves the committed version, and a working version
 -- of the length that the edit makes of the length before it.

@@ -13,8 +13,9 @@ ghost use Rattle.moment_model.specs.Edit.{edited_slot};
 ghost use Rattle.moment_model.specs.Moment.{ObjectSlot};
 ghost use Rattle.moment_model.specs.Version.{IsGood, IsGoodVersion, tree_bytes, version_bytes};
 ghost use Rattle.moment_laws.specs.Granting.{AreSpaces, got_grants};
-ghost use Rattle.edit_laws.specs.Laying.{IsChange, got_slot};
-ghost use Rattle.edit_laws.specs.Tail.{IsTail};
+ghost use Rattle.change_laws.specs.Laying.{IsChange};
+ghost use Rattle.soundness_laws.specs.Keeping.{got_slot};
+ghost use Rattle.change_laws.specs.Tail.{IsTail};
 ghost use Rattle.effect_laws.specs.Lengths.{plain_length};
 ghost use Rattle.length_laws.specs.KeepsLength.{KeepsLength};
 

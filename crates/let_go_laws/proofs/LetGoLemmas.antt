@@ -25,11 +25,15 @@ use Rattle.moment_laws.specs.Change.{free_after, locked_after}
 use Rattle.moment_laws.specs.Granting.{LiesInSpace, AreSpaces, page_run, runs_of_parts, granted_runs}
 use Rattle.moment_laws.proofs.GrantLemmas.{granted-took, free_of-spaces, uses-append}
 use Rattle.moment_laws.proofs.ChangeLemmas.{is_free-after, is_locked-after, sound-grown}
-use Rattle.edit_laws.specs.Laying.{IsChange, laid_slot}
-use Rattle.edit_laws.specs.Tail.{IsTail, HaveTails}
-use Rattle.edit_laws.proofs.PartLemmas.{segments_uses, segments_uses-append, all-left}
-use Rattle.edit_laws.proofs.LayingLemmas.{spliced_entries}
-use Rattle.edit_laws.proofs.EditLemmas.{granted-is, packed-object, planned-out, granted-used, effect-edited}
+use Rattle.change_laws.specs.Laying.{IsChange}
+use Rattle.soundness_laws.specs.LetGo.{laid_slot}
+use Rattle.change_laws.specs.Tail.{IsTail, HaveTails}
+use Rattle.change_laws.proofs.PieceLemmas.{segments_uses, segments_uses-append}
+use Rattle.change_laws.proofs.PartLemmas.{all-left}
+use Rattle.change_laws.proofs.LayingLemmas.{spliced_entries}
+use Rattle.change_laws.proofs.PlannedLemmas.{granted-is, packed-object, planned-out}
+use Rattle.change_laws.proofs.ChangeLemmas.{granted-used}
+use Rattle.soundness_laws.proofs.EditLemmas.{effect-edited}
 use Rattle.let_go_laws.specs.LetGo.{is_dropped, replaced_entries, spare_run, dropped_runs, AreGone}
 
 -- ---- free or locked

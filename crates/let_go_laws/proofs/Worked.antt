@@ -12,7 +12,7 @@ use Rattle.layout_model.specs.Plan.{planned}
 use Rattle.moment_model.specs.Moment.{ObjectSlot, Moment, is_free, is_locked}
 use Rattle.moment_model.specs.Version.{Version}
 use Rattle.moment_laws.specs.Granting.{got_grants}
-use Rattle.edit_laws.specs.Laying.{laid_slot}
+use Rattle.soundness_laws.specs.LetGo.{laid_slot}
 use Rattle.let_go_laws.specs.LetGo.{is_dropped, dropped_runs}
 
 abbrev small : Numbers

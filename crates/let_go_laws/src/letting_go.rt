@@ -12,8 +12,9 @@ ghost use Rattle.moment_model.specs.Moment.{free_of, is_free, is_locked, committ
 ghost use Rattle.moment_model.specs.Moment.{working_uses, IsSound};
 ghost use Rattle.moment_model.specs.Version.{IsGood, uses};
 ghost use Rattle.moment_laws.specs.Granting.{AreSpaces, got_grants};
-ghost use Rattle.edit_laws.specs.Laying.{IsChange, laid_slot};
-ghost use Rattle.edit_laws.specs.Tail.{IsTail, HaveTails};
+ghost use Rattle.change_laws.specs.Laying.{IsChange};
+ghost use Rattle.soundness_laws.specs.LetGo.{laid_slot};
+ghost use Rattle.change_laws.specs.Tail.{IsTail, HaveTails};
 ghost use Rattle.let_go_laws.specs.LetGo.{is_dropped, dropped_runs, AreGone};
 
 use moment_model::Kind;

@@ -13,9 +13,9 @@ use Rattle.layout_model.specs.Levels.{new_levels_from, spliced, is_top, unless_e
 use Rattle.layout_laws.proofs.LevelLemmas.{raised_levels-head, new_levels_from-head, count-cons}
 use Rattle.layout_laws.proofs.NamingLemmas.{new_levels_from-top, new_levels_from-more}
 use Rattle.moment_model.specs.Version.{uses, node_run, AreLevels, Carries, AreFilled, IsFilled, least_on}
-use Rattle.edit_laws.proofs.NodeLemmas.{level_uses, levels_uses, level_uses-append, levels_uses-cons}
-use Rattle.edit_laws.proofs.PartLemmas.{all-left, all-right}
-use Rattle.edit_laws.proofs.UsedLemmas.{empty-alone}
+use Rattle.change_laws.proofs.NodeLemmas.{level_uses, levels_uses, level_uses-append, levels_uses-cons}
+use Rattle.change_laws.proofs.PartLemmas.{all-left, all-right}
+use Rattle.change_laws.proofs.UsedNodeLemmas.{empty-alone}
 use Rattle.local_laws.specs.Cut.{Cut, whole, widened, number_in_run}
 use Rattle.local_laws.specs.Path.{PathLevel, is_top_of_path, new_path_from, splice_path, shown_level, shown, Leads}
 use Rattle.local_laws.specs.Path.{AreLeading, IsWay, widened_path}

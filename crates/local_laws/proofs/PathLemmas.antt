@@ -12,7 +12,8 @@ use Rattle.layout_model.specs.Levels.{raised_levels, new_levels_from, spliced, i
 use Rattle.layout_laws.proofs.LevelLemmas.{Holds, more-pairs, touched_site-holds, joined-holds, raised_levels-head}
 use Rattle.layout_laws.proofs.NamingLemmas.{site_of-within, new_levels_from-top, new_levels_from-more}
 use Rattle.tree_model.proofs.PageCountLaws.{count-some}
-use Rattle.edit_laws.proofs.ShapeLemmas.{made-length, sizes-length, site_of-some, exchanged-length, node_at-rises}
+use Rattle.change_laws.proofs.SizeLemmas.{made-length, sizes-length}
+use Rattle.change_laws.proofs.SiteLemmas.{site_of-some, exchanged-length, node_at-rises}
 use Rattle.local_laws.specs.Cut.{Cut, whole, widened, first_deciding, number_in_run, touched_in_run, pairs_left, HasNeighbour, IsEnough}
 use Rattle.local_laws.specs.Path.{PathLevel, is_top_of_path, new_path_from, splice_path, shown_level, shown, Leads}
 use Rattle.local_laws.specs.Path.{AreLeading, IsWay, widened_path}

@@ -6,9 +6,9 @@ use Rattle.std.specs.List.{AllByRecursion}
 use Rattle.std.proofs.lemmas.List.{reverse-append, reverse-reverse}
 use Rattle.base_laws.proofs.ListLaws.{all-append}
 use Rattle.base_laws.proofs.OptionLaws.{some-inner}
-use Rattle.edit_laws.specs.Laying.{AsksThreshold}
-use Rattle.edit_laws.specs.Tail.{HaveTails}
-use Rattle.edit_laws.proofs.EditLemmas.{edited-sound}
+use Rattle.soundness_laws.specs.Keeping.{AsksThreshold}
+use Rattle.change_laws.specs.Tail.{HaveTails}
+use Rattle.soundness_laws.proofs.EditLemmas.{edited-sound}
 use Rattle.eos_ops.specs.declared.command.Command.{Command}
 use Rattle.eos_ops.specs.declared.command.Command.TheVariants as command
 use Rattle.eos_ops.specs.declared.edit.Edit.{Edit}
@@ -27,7 +27,7 @@ use Rattle.moment_model.specs.Moment.{Moment, IsSound}
 use Rattle.moment_model.specs.Run.{AllAgree}
 use Rattle.moment_model.specs.Version.{IsGood}
 use Rattle.plain_moment.specs.Stored.{Stored, IsStoreStep, is_unfailing, store_of}
-use Rattle.run_laws.proofs.RunLemmas.{run-sound}
+use Rattle.soundness_laws.proofs.RunLemmas.{run-sound}
 use Rattle.script_model.specs.Grammar.{CommandFits}
 use Rattle.script_model.specs.Transcript.{Answers}
 use Rattle.script_run.specs.Served.{AreSteps}

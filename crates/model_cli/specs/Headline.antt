@@ -12,7 +12,7 @@ use Rattle.moment_model.specs.Moment.{Moment, IsSound}
 use Rattle.moment_model.specs.Run.{AllAgree, moment_of}
 use Rattle.moment_model.specs.Version.{IsGood}
 use Rattle.plain_moment.specs.Stored.{is_unfailing}
-use Rattle.run_laws.specs.InOrder.{is_held}
+use Rattle.soundness_laws.specs.InOrder.{is_held}
 use Rattle.script_run.specs.Headline.{IsSerialRun}
 use Rattle.store_model.specs.Store.{Store}
 

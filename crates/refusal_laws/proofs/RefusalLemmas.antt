@@ -33,9 +33,9 @@ use Rattle.moment_model.specs.Version.{Version, IsGood, IsGoodVersion, tree_byte
 use Rattle.moment_model.specs.Moment.{ObjectSlot}
 use Rattle.moment_model.specs.Edit.{Effect, Refuses, Stays, Becomes, Changes, change_within, change_at, effect_on}
 use Rattle.moment_model.specs.Edit.{on_grants, after_effect, edited_slot}
-use Rattle.edit_laws.proofs.PartLemmas.{GoodPart, all-left, all-right, plan-good}
-use Rattle.edit_laws.proofs.LayingLemmas.{IsPackedObject, merged_plan}
-use Rattle.edit_laws.proofs.EditLemmas.{packed-object}
+use Rattle.change_laws.proofs.PartLemmas.{GoodPart, all-left, all-right, plan-good}
+use Rattle.change_laws.proofs.LayingLemmas.{IsPackedObject, merged_plan}
+use Rattle.change_laws.proofs.PlannedLemmas.{packed-object}
 use Rattle.refusal_laws.specs.Refusal.{refused_run, IsFewPages}
 
 -- ---- answers

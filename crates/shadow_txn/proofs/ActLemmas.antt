@@ -52,15 +52,18 @@ act_of-answered n c (reply.Status f l k) = refl
 act_of-answered n c reply.Again = refl
 
 -- what is noted of a command on an object that has its bytes
-noted-answer : (n : ℕ) (c : Command) (r : Reply) → object_of c ≡ Some n → with_bytes c ≡ c
+noted-answer : (n : ℕ) (c : Command) (r : Reply) →
+    object_of c ≡ Some n → with_bytes c ≡ c
     → noted true c r ≡ (if is_objects_own r then record { command = c; reply = r } ∷ [] else [])
 noted-answer n c r on bytes = ap act_of (deed-object c r n on) ∙ ap (λ k. act_of (answered n k r)) bytes ∙ act_of-answered n c r
 
-pub noted-own : (n : ℕ) (c : Command) (r : Reply) → object_of c ≡ Some n → with_bytes c ≡ c → is_objects_own r ≡ true
+pub noted-own : (n : ℕ) (c : Command) (r : Reply) →
+    object_of c ≡ Some n → with_bytes c ≡ c → is_objects_own r ≡ true
     → noted true c r ≡ record { command = c; reply = r } ∷ []
 noted-own n c r on bytes own = noted-answer n c r on bytes ∙ ap (λ (b : Bool). if b then record { command = c; reply = r } ∷ [] else []) own
 
-pub noted-none : (n : ℕ) (c : Command) (r : Reply) → object_of c ≡ Some n → with_bytes c ≡ c →
+pub noted-none : (n : ℕ) (c : Command) (r : Reply) →
+    object_of c ≡ Some n → with_bytes c ≡ c →
     is_objects_own r ≡ false → noted true c r ≡ []
 noted-none n c r on bytes other = noted-answer n c r on bytes
     ∙ ap (λ (b : Bool). if b then record { command = c; reply = r } ∷ [] else []) other
@@ -71,7 +74,8 @@ lead-push x w acts a lead right =
     (RightAt-push acts a x lead.0 (ap (reply_in a.command) lead.1 ∙ right), replayed-push acts a x ∙ ap (after_in a.command) lead.1)
 
 -- Acts lead on to the version after a command, if what was noted of it is right.
-lead-noted : (tells : Bool) (x w y : Plain) (acts : List Act) (n : ℕ) (c : Command) (r : Reply) → object_of c ≡ Some n → with_bytes c ≡ c
+pub lead-noted : (tells : Bool) (x w y : Plain) (acts : List Act) (n : ℕ) (c : Command) (r : Reply) →
+    object_of c ≡ Some n → with_bytes c ≡ c
     → (is_objects_own r ≡ true → (reply_in c w ≡ r) × (after_in c w ≡ y)) → (is_objects_own r ≡ false → y ≡ w)
     → Lead tells x acts w → Lead tells x (acts ++ noted tells c r) y
 lead-noted false x w y acts n c r on bytes own other lead = append-nil acts ∙ lead
@@ -99,23 +103,23 @@ led-noted tells told last x y acts n c r on bytes committed annals own other led
   ages = subst (λ h. IfSome (told h) (λ ends. last h ≡ last_stamp_of ends)) (sym annals) led.ages;
 }
 
-reply_in-length : (n : ℕ) (w : Plain) → reply_in (command.Length n) w ≡ length_in w
+pub reply_in-length : (n : ℕ) (w : Plain) → reply_in (command.Length n) w ≡ length_in w
 unfolding reply_in
 reply_in-length n w = refl
 
-after_in-length : (n : ℕ) (w : Plain) → after_in (command.Length n) w ≡ w
+pub after_in-length : (n : ℕ) (w : Plain) → after_in (command.Length n) w ≡ w
 unfolding after_in
 after_in-length n w = refl
 
-reply_in-read : (n at len : ℕ) (w : Plain) → reply_in (command.Read n at len) w ≡ read_in at len w
+pub reply_in-read : (n at len : ℕ) (w : Plain) → reply_in (command.Read n at len) w ≡ read_in at len w
 unfolding reply_in
 reply_in-read n at len w = refl
 
-after_in-read : (n at len : ℕ) (w : Plain) → after_in (command.Read n at len) w ≡ w
+pub after_in-read : (n at len : ℕ) (w : Plain) → after_in (command.Read n at len) w ≡ w
 unfolding after_in
 after_in-read n at len w = refl
 
-reply_in-edit : (n : ℕ) (e : Edit) (w : Plain) → reply_in (edit_command n e) w ≡ reply_of (outcome_in e w)
+pub reply_in-edit : (n : ℕ) (e : Edit) (w : Plain) → reply_in (edit_command n e) w ≡ reply_of (outcome_in e w)
 unfolding reply_in
 reply_in-edit n (Create t) w = refl
 reply_in-edit n Destroy w = refl
@@ -124,7 +128,7 @@ reply_in-edit n (Insert at p) w = refl
 reply_in-edit n (Delete at len) w = refl
 reply_in-edit n (Replace at p) w = refl
 
-after_in-edit : (n : ℕ) (e : Edit) (w : Plain) → after_in (edit_command n e) w ≡ edited e w
+pub after_in-edit : (n : ℕ) (e : Edit) (w : Plain) → after_in (edit_command n e) w ≡ edited e w
 unfolding after_in
 after_in-edit n (Create t) w = refl
 after_in-edit n Destroy w = refl
@@ -149,13 +153,13 @@ with_bytes-edit n (Insert at p) = refl
 with_bytes-edit n (Delete at len) = refl
 with_bytes-edit n (Replace at p) = refl
 
-own-outcome : (outcome : Outcome) → is_objects_own (reply_of outcome) ≡ true
+pub own-outcome : (outcome : Outcome) → is_objects_own (reply_of outcome) ≡ true
 own-outcome Done = refl
 own-outcome Exists = refl
 own-outcome Missing = refl
 own-outcome (Range n) = refl
 
-no_memory : (r : Reply) → is_objects_own r ≡ true → r ≡ reply.Memory → ⊥
+pub no_memory : (r : Reply) → is_objects_own r ≡ true → r ≡ reply.Memory → ⊥
 no_memory r own e = let wrong : is_objects_own reply.Memory ≡ true = subst (λ q. is_objects_own q ≡ true) e own in absurd cc
 
 -- a length that was answered

@@ -65,7 +65,7 @@ lasts_below last own stamp (k ∷ held) e =
     All-cons (λ (h : Held _). last h.object < stamp) k held (omega arith)
     (lasts_below last (max own (last k.object)) stamp held (omega arith))
 
-found_first : {T : Type 0} (k : Held T) (held : List (Held T)) → held_object k.number (k ∷ held) ≡ Some k.object
+pub found_first : {T : Type 0} (k : Held T) (held : List (Held T)) → held_object k.number (k ∷ held) ≡ Some k.object
 found_first k held = let same : nat_eq k.number k.number ≡ true = eq-eqb k.number k.number refl in rw same refl
 
 found_later : {T : Type 0} (k : Held T) (held : List (Held T)) (o : ℕ) (x : T) → held_object k.number held ≡ None →
@@ -94,7 +94,7 @@ found_All Q (k ∷ held) o x all found =
     found_in Q (k.number == o) k.object x (held_object o held) (All-head (λ (h : Held _). Q h.object) k held all)
     (λ later. found_All Q held o x (All-tail (λ (h : Held _). Q h.object) k held all) later) found
 
-greatest_below : {T : Type 0} (last : T → ℕ) (n : ℕ) (held : List (Held T)) →
+pub greatest_below : {T : Type 0} (last : T → ℕ) (n : ℕ) (held : List (Held T)) →
     All (λ (h : Held T). last h.object ≤ n) held → greatest_last last held ≤ n
 greatest_below last n [] all = omega arith
 greatest_below last n (k ∷ held) all =
@@ -121,7 +121,7 @@ may_end told last t stamp shelf s active number apart e = record {
       s.past;
 }
 
-out_after : {T : Type 0} (Ended : T → T → Type 0) (held : List (Held T)) (old new : Shelving T) (o : ℕ)
+pub out_after : {T : Type 0} (Ended : T → T → Type 0) (held : List (Held T)) (old new : Shelving T) (o : ℕ)
     (r : Option T) → held_object o held ≡ r
     → (held_object o held ≡ None → old.out o ≡ None) → MatchOption r (IsSameAt o old new) (λ x. IsEndedAt Ended o x new) → new.out o ≡ None
 out_after Ended held old new o None e free same = same.out ∙ free e
@@ -214,7 +214,7 @@ replays-push x y [] e replays right = subst (λ z. RightAt z e.acts × (after_en
 replays-push x y (f ∷ ends) e replays right = (replays.0, replays-push (after_entry x f) y ends e replays.1 right)
 
 -- a legal list with the end of acts that lead to the working version
-legal-push : (first committed working after : Plain) (ends : List End) (e : End) → IsLegal first ends committed →
+pub legal-push : (first committed working after : Plain) (ends : List End) (e : End) → IsLegal first ends committed →
     Lead true committed e.acts working
     → after ≡ (if e.committed then working else committed) → last_stamp_of ends < e.stamp → IsLegal first (ends ++ e ∷ []) after
 legal-push first committed working after ends e legal lead is above = record {

@@ -37,7 +37,8 @@ sound-without_held spare last Made capacity t o s = record {
 }
 
 -- the ends that an object came with are no new ones
-none_added : (out : Option (Option (List End))) (ends : Option (List End)) → IsSomeAnd out (λ known. IfSome known (λ was. ends ≡ Some was))
+pub none_added : (out : Option (Option (List End))) (ends : Option (List End)) →
+    IsSomeAnd out (λ known. IfSome known (λ was. ends ≡ Some was))
     → added_ends (option_flatten out) ends ≡ []
 none_added None ends came = absurd came
 none_added (Some None) ends came = refl

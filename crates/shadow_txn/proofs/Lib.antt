@@ -1,8 +1,8 @@
-mod ActLemmas
-mod EndingLemmas
-mod HalfwayLemmas
+pub mod ActLemmas
+pub mod EndingLemmas
+pub mod HalfwayLemmas
 pub mod HeldLemmas
-mod LettingGoLemmas
-mod ServingLemmas
+pub mod LettingGoLemmas
+pub mod ServingLemmas
 mod TakingLemmas
 mod TestSessionLemmas

@@ -7,7 +7,7 @@ use crate::HoldFail;
 use eos_ops::{Annals, LAST_STAMP};
 
 /// Makes the room, where there is a stamp left for the end.
-pub(crate) fn make_room<H: Annals>(annals: &mut H) -> Result<(), HoldFail>
+pub fn make_room<H: Annals>(annals: &mut H) -> Result<(), HoldFail>
     ensures worn { (result ≡ Err HoldFail.Worn) ↔ (H.last annals.old ≡ 2 ^ 62) }
     ensures within { H.last annals.old ≤ 2 ^ 62 }
     ensures ok { OnOk result ((1 ≤ H.spare annals.new) × (H.last annals.new < 2 ^ 62)) }

@@ -17,7 +17,7 @@ pub struct Held<T> {
 }
 
 /// Where an object stands among those that are held.
-pub(crate) fn place_of<T>(held: &[Held<T>], o: u64) -> Option<usize>
+pub fn place_of<T>(held: &[Held<T>], o: u64) -> Option<usize>
     requires { length held.now ≤ 16 }
     ensures found { IfSome result (λ i. IsFirstAt held.now o i) }
     ensures none { IfNone result (held_object o held.now ≡ None) }

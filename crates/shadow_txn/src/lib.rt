@@ -23,7 +23,10 @@ mod test_session;
 mod tests;
 mod txn;
 
+pub use annals_room::make_room;
 pub use fails::{BeginFail, HoldFail, TxnFail};
-pub use held::Held;
+pub use held::{Held, place_of};
+pub use noting::{command_of, with_room};
 pub use plain_object::PlainObject;
+pub use reply::{is_own, reply_of_fail, reply_of_length, reply_of_outcome, reply_of_read};
 pub use txn::Txn;

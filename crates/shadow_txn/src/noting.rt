@@ -117,7 +117,7 @@ impl<H: Annals> Held<PlainObject<H>> {
 }
 
 /// The acts with room for one more, taken out of their place.
-fn with_room(alloc: Global, acts: &mut Acts) -> Result<Vec<Act>, AllocError>
+pub fn with_room(alloc: Global, acts: &mut Acts) -> Result<Vec<Act>, AllocError>
     ensures ok { IfOk result (λ room. room.items ≡ acts.old) }
     ensures room { IfOk result (λ room. vec_len room < vec_capacity room) }
     ensures err { OnErr result (acts.new ≡ acts.old) }
@@ -133,7 +133,7 @@ fn with_room(alloc: Global, acts: &mut Acts) -> Result<Vec<Act>, AllocError>
 }
 
 /// The command on object `o` that makes an edit, with a copy of its bytes.
-fn command_of(alloc: Global, o: u64, edit: &Edit) -> Result<Command, AllocError>
+pub fn command_of(alloc: Global, o: u64, edit: &Edit) -> Result<Command, AllocError>
     ensures { IfOk result (λ command. command ≡ edit_command o edit.now) }
 {
     Ok(match edit {

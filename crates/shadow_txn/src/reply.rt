@@ -10,7 +10,7 @@ use eos_ops::{Bytes, Outcome, Reply};
 use std::alloc::{AllocError, Global};
 
 /// Whether the reply is one that the object itself gives.
-pub(crate) fn is_own(reply: &Reply) -> bool
+pub fn is_own(reply: &Reply) -> bool
     ensures { result ≡ is_objects_own reply.now }
 {
     matches!(
@@ -24,7 +24,7 @@ pub(crate) fn is_own(reply: &Reply) -> bool
     )
 }
 
-pub(crate) fn reply_of_outcome(outcome: Outcome) -> Reply
+pub fn reply_of_outcome(outcome: Outcome) -> Reply
     ensures { result ≡ reply_of outcome }
 {
     match outcome {
@@ -35,7 +35,7 @@ pub(crate) fn reply_of_outcome(outcome: Outcome) -> Reply
     }
 }
 
-pub(crate) fn reply_of_length(answer: &Result<u64, TxnFail>) -> Reply
+pub fn reply_of_length(answer: &Result<u64, TxnFail>) -> Reply
     ensures { result ≡ length_reply answer.now }
 {
     match answer {
@@ -45,10 +45,7 @@ pub(crate) fn reply_of_length(answer: &Result<u64, TxnFail>) -> Reply
 }
 
 /// The reply has a copy of the bytes.
-pub(crate) fn reply_of_read(
-    alloc: Global,
-    answer: &Result<Bytes, TxnFail>,
-) -> Result<Reply, AllocError>
+pub fn reply_of_read(alloc: Global, answer: &Result<Bytes, TxnFail>) -> Result<Reply, AllocError>
     ensures { IfOk result (λ reply. reply ≡ bytes_reply answer.now) }
 {
     match answer {
@@ -57,7 +54,7 @@ pub(crate) fn reply_of_read(
     }
 }
 
-fn reply_of_fail(fail: TxnFail) -> Reply
+pub fn reply_of_fail(fail: TxnFail) -> Reply
     ensures { result ≡ fail_reply fail }
 {
     match fail {

@@ -114,9 +114,9 @@ add_made rows now w r k m view order place some lacks_view e =
     )
 
 -- a span taken out from between spans in order
-pub removed_between : (xs ys : List HeldSpan) (r : HeldSpan) (m : ℕ) → InOrder 0 (xs ++ (r ∷ ys)) →
-    IsRemoved r (record { spans = xs ++ (r ∷ ys); room = m }) (record { spans = xs ++ ys; room = m })
-removed_between xs ys r m order =
+pub removed_between : (xs ys : List HeldSpan) (r : HeldSpan) (m n : ℕ) → m ≤ n + 1 → InOrder 0 (xs ++ (r ∷ ys)) →
+    IsRemoved r (record { spans = xs ++ (r ∷ ys); room = m }) (record { spans = xs ++ ys; room = n })
+removed_between xs ys r m n less order =
     let front = InOrder-front 0 xs (r ∷ ys) order in
     let back = InOrder-back 0 xs (r ∷ ys) order in
     let low = back.0 in
@@ -179,7 +179,7 @@ removed_between xs ys r m order =
             ∙ ap (λ (b : Bool). begins_in xs q || (b || begins_in ys q)) here))
       ];
       count = let a = length-append xs (r ∷ ys) in let b = length-append xs ys in omega arith;
-      room = omega arith;
+      room = less;
     }
   where
     begun_first : (low : ℕ) (zs : List HeldSpan) → InOrder low zs → is_some (page_in zs low) ≡ true → begins_in zs low ≡ true
@@ -201,19 +201,20 @@ removed_order xs ys r order =
     InOrder-append 0 xs ys (InOrder-front 0 xs (r ∷ ys) order) (InOrder-low (last_end 0 xs) (end_of r) ys (omega arith) back.2)
 
 -- the span at i taken out
-pub remove_made : (rows now : List HeldSpan) (w : Held) (r : HeldSpan) (i m : ℕ) → record { spans = rows; room = m } ≡ w → InOrder 0 rows →
-    i < length rows → get_or rows i no_span ≡ r → now ≡ take i rows ++ drop (suc i) rows
-    → InOrder 0 now × IsRemoved r w (record { spans = now; room = m })
-remove_made rows now w r i m view order within here e =
+pub remove_made : (rows now : List HeldSpan) (w : Held) (r : HeldSpan) (i m n : ℕ) →
+    record { spans = rows; room = m } ≡ w → InOrder 0 rows →
+    i < length rows → get_or rows i no_span ≡ r → now ≡ take i rows ++ drop (suc i) rows → m ≤ n + 1
+    → InOrder 0 now × IsRemoved r w (record { spans = now; room = n })
+remove_made rows now w r i m n view order within here e less =
     let split : rows ≡ take i rows ++ (r ∷ drop (suc i) rows) =
     split_at rows i within ∙ ap (λ (s : HeldSpan). take i rows ++ (s ∷ drop (suc i) rows)) here in
     let whole : InOrder 0 (take i rows ++ (r ∷ drop (suc i) rows)) = subst (InOrder 0) split order in
     let old : record { spans = take i rows ++ (r ∷ drop (suc i) rows); room = m } ≡ w =
     ap (λ (xs : List HeldSpan). record { spans = xs; room = m }) (sym split) ∙ view in (
       subst (InOrder 0) (sym e) (removed_order (take i rows) (drop (suc i) rows) r whole),
-      subst (λ (xs : List HeldSpan). IsRemoved r w (record { spans = xs; room = m })) (sym e)
-          (subst (λ (h : Held). IsRemoved r h (record { spans = take i rows ++ drop (suc i) rows; room = m })) old
-          (removed_between (take i rows) (drop (suc i) rows) r m whole)),
+      subst (λ (xs : List HeldSpan). IsRemoved r w (record { spans = xs; room = n })) (sym e)
+          (subst (λ (h : Held). IsRemoved r h (record { spans = take i rows ++ drop (suc i) rows; room = n })) old
+          (removed_between (take i rows) (drop (suc i) rows) r m n less whole)),
     )
 
 -- the span that begins at a page is the one before the page's place

@@ -1,15 +1,15 @@
 -- Two spans that meet at a page: how they are found, and what is held once they are one.
-use Rattle.std.proofs.Common.{◌≡◌, ℕ, zero, suc, ◌+◌, ◌-◌, ◌<◌, ◌≤◌, Bool, true, false, ◌||◌, ◌&&◌, List, [], ◌∷◌}
+use Rattle.std.proofs.Common.{◌≡◌, ℕ, zero, suc, ◌+◌, ◌-◌, ◌<◌, ◌≤◌, Bool, true, false, ◌||◌, ◌&&◌, List, ◌∷◌}
 use Rattle.std.proofs.Common.{◌++◌, length, take, drop, get_or, refl, sym, ap, subst, ◌∙◌, arith, length-append}
 use Rattle.std.proofs.Common.{drop-cons}
-use Rattle.std.specs.Prelude.{is_some, ◌==◌, IsTrue, IfSome, nat_lt}
+use Rattle.std.specs.Prelude.{is_some, ◌==◌, IfSome, nat_lt}
 use Rattle.std.proofs.lemmas.Bool.{and_from, eq-eqb, false_from_ne_true, false≢true, lt-ltb, ltb-true, ne_eqb}
 use Rattle.std.proofs.Math.Seq.{take-append_seam, drop-append_seam}
 use Rattle.span_store.specs.Held.{AllSized, Held, HeldSpan, begins_in, is_border, is_border_in, page_in}
 use Rattle.span_store.specs.Order.{InOrder, IsBorder, IsRank, as_one, back_part, first_at, front_part, no_span, with_join}
 use Rattle.span_store.specs.Calls.{IsCutAt, IsJoined}
 use Rattle.span_store.proofs.SpanLists.{InOrder-append, InOrder-back, InOrder-front, IsIn, back_of}
-use Rattle.span_store.proofs.SpanLists.{begins_in-append, begins_in-below, begins_in-beyond, end_of, last_end}
+use Rattle.span_store.proofs.SpanLists.{begins_in-append, begins_in-below, begins_in-beyond, end_of}
 use Rattle.span_store.proofs.SpanLists.{near-begins, near-held, near-inside, near-place, page_in-inside}
 use Rattle.span_store.proofs.SpanLists.{page_of-inside, place-some, split_at}
 use Rattle.span_store.proofs.Holds.{begun_at, cut_between}
@@ -130,9 +130,9 @@ join_order xs ys s t meets order =
     (back.0, omega arith, subst (λ (k : ℕ). InOrder k ys) ends back.2.2)
 
 -- spans between others, made one
-join_between : (xs ys : List HeldSpan) (s t : HeldSpan) (m : ℕ) → t.first ≡ end_of s → InOrder 0 (xs ++ (s ∷ t ∷ ys)) →
-    IsJoined (end_of s) (record { spans = xs ++ (s ∷ t ∷ ys); room = m }) (record { spans = xs ++ (as_one s t ∷ ys); room = m })
-join_between xs ys s t m meets order =
+join_between : (xs ys : List HeldSpan) (s t : HeldSpan) (m k : ℕ) → m ≤ k + 1 → t.first ≡ end_of s → InOrder 0 (xs ++ (s ∷ t ∷ ys)) →
+    IsJoined (end_of s) (record { spans = xs ++ (s ∷ t ∷ ys); room = m }) (record { spans = xs ++ (as_one s t ∷ ys); room = k })
+join_between xs ys s t m k less meets order =
     let r = as_one s t in
     let n = length s.pages in
     let whole = join_order xs ys s t meets order in
@@ -147,24 +147,24 @@ join_between xs ys s t m meets order =
     let left = begins_in-beyond 0 xs (end_of s) front (omega arith) in
     let here = ne_eqb s.first (end_of s) (λ e. omega arith) in
     let right = begins_in-below (end_of r) ys (end_of s) back.2 (omega arith) in
-    let cut = cut_between xs ys r n m m whole (omega arith) (omega arith) in
+    let cut = cut_between xs ys r n k m whole (omega arith) (omega arith) in
     record {
       whole = begins_in-append xs (r ∷ ys) (end_of s) ∙ ap (λ (b : Bool). b || ((s.first == end_of s) || begins_in ys (end_of s))) left
           ∙ ap (λ (b : Bool). b || begins_in ys (end_of s)) here ∙ right;
       cut =
           subst
-          (λ (x : HeldSpan). IsCutAt (end_of s) (record { spans = xs ++ (r ∷ ys); room = m })
+          (λ (x : HeldSpan). IsCutAt (end_of s) (record { spans = xs ++ (r ∷ ys); room = k })
           (record { spans = xs ++ (x ∷ t ∷ ys); room = m })) again.0
-          (subst (λ (x : HeldSpan). IsCutAt (end_of s) (record { spans = xs ++ (r ∷ ys); room = m })
+          (subst (λ (x : HeldSpan). IsCutAt (end_of s) (record { spans = xs ++ (r ∷ ys); room = k })
           (record { spans = xs ++ (front_part r n ∷ x ∷ ys); room = m })) again.1 cut);
-      room = omega arith;
+      room = less;
     }
 
 -- the span at i and the one behind it, made one
 pub join_made : (rows now : List HeldSpan) (w : Held) (i m n page : ℕ) → record { spans = rows; room = m } ≡ w → InOrder 0 rows →
-    IsBorder rows page i → now ≡ with_join rows i → n ≡ m
+    IsBorder rows page i → now ≡ with_join rows i → m ≤ n + 1
     → InOrder 0 now × IsJoined page w (record { spans = now; room = n })
-join_made rows now w i m n page view order met is same =
+join_made rows now w i m n page view order met is less =
     let s = get_or rows i no_span in
     let t = get_or rows (suc i) no_span in
     let xs = take i rows in
@@ -180,12 +180,11 @@ join_made rows now w i m n page view order met is same =
     let old : record { spans = xs ++ (s ∷ t ∷ ys); room = m } ≡ w =
     ap (λ (zs : List HeldSpan). record { spans = zs; room = m }) (sym split) ∙ view in (
       subst (InOrder 0) (sym is) (join_order xs ys s t meets whole),
-      subst (λ (k : ℕ). IsJoined page w (record { spans = now; room = k })) (sym same)
-          (subst (λ (zs : List HeldSpan). IsJoined page w (record { spans = zs; room = m })) (sym is)
-          (subst (λ (h : Held). IsJoined page h (record { spans = with_join rows i; room = m })) old
+      subst (λ (zs : List HeldSpan). IsJoined page w (record { spans = zs; room = n })) (sym is)
+          (subst (λ (h : Held). IsJoined page h (record { spans = with_join rows i; room = n })) old
           (subst (λ (p : ℕ). IsJoined p (record { spans = xs ++ (s ∷ t ∷ ys); room = m })
-          (record { spans = with_join rows i; room = m })) end
-          (join_between xs ys s t m meets whole)))),
+          (record { spans = with_join rows i; room = n })) end
+          (join_between xs ys s t m n less meets whole))),
     )
 
 -- the page is a border of what is held

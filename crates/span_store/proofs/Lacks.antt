@@ -1,13 +1,13 @@
 -- Runs of which spans in order have no page.
-use Rattle.std.proofs.Common.{◌≡◌, ℕ, zero, suc, ◌+◌, ◌-◌, ◌<◌, ◌≤◌, List, [], ◌∷◌, ◌++◌, length, take, drop}
-use Rattle.std.proofs.Common.{get_or, Option, None, refl, sym, ap, subst, ◌∙◌, inl, inr, arith, drop-cons}
+use Rattle.std.proofs.Common.{◌≡◌, ℕ, zero, suc, ◌+◌, ◌-◌, ◌<◌, ◌≤◌, List, [], ◌∷◌, length, take, drop}
+use Rattle.std.proofs.Common.{get_or, None, sym, ap, subst, ◌∙◌, inl, inr, arith, drop-cons}
 use Rattle.std.proofs.Common.{take-append-drop}
 use Rattle.std.specs.Prelude.{is_some}
 use Rattle.std.specs.Option.{option_or}
 use Rattle.std.proofs.lemmas.Bool.{cases_lt, false≢true}
 use Rattle.std.proofs.lemmas.List.{drop_all, take_more}
 use Rattle.span_store.specs.Held.{HeldSpan, page_in}
-use Rattle.span_store.specs.Order.{InOrder, IsRank, LackRun, first_at, no_span}
+use Rattle.span_store.specs.Order.{InOrder, IsRank, LackRun, no_span}
 use Rattle.span_store.proofs.SpanLists.{IsIn, back_of, end_of, last_end, last_end-append, page_in-append}
 use Rattle.span_store.proofs.SpanLists.{page_in-below, page_in-beyond, page_in-inside, page_of-inside}
 use Rattle.span_store.proofs.SpanLists.{InOrder-front, InOrder-low, option_or-none}
@@ -51,7 +51,7 @@ lacks_none rows first n k order some rank none =
     lacks_before rows first n k order some rank (omega arith)
 
 -- where the first k spans end
-last_end-rank : (rows : List HeldSpan) (k : ℕ) → 0 < k → k ≤ length rows →
+pub last_end-rank : (rows : List HeldSpan) (k : ℕ) → 0 < k → k ≤ length rows →
     last_end 0 (take k rows) ≡ end_of (get_or rows (k - 1) no_span)
 last_end-rank rows zero some within = absurd (omega arith)
 last_end-rank rows (suc j) some within =

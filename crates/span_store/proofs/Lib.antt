@@ -1,8 +1,15 @@
 pub mod SpanLists
+pub mod InPieces
 pub mod Runs
 pub mod Meters
 pub mod Overwrites
 pub mod Holds
 pub mod Joins
 pub mod Lacks
+pub mod Begun
+pub mod PieceSpans
+pub mod Filed
+pub mod Kept
+pub mod Borders
+pub mod Ends
 pub mod Turns

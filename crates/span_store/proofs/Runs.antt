@@ -1,11 +1,11 @@
 -- The bytes of runs of pages: joined, and those that one span has.
 use Rattle.std.proofs.Common.{min, inl, inr, length-drop, ◌≡◌, ℕ, zero, suc, ◌+◌, ◌-◌, ◌*◌, ◌/◌, ◌%◌, ◌<◌, ◌≤◌}
-use Rattle.std.proofs.Common.{List, [], ◌++◌, length, take, drop, get_or, refl, sym, ap, subst, ◌∙◌, append_assoc}
-use Rattle.std.proofs.Common.{arith, drop-cons, zero-add, add-zero}
+use Rattle.std.proofs.Common.{List, [], ◌++◌, length, take, drop, get_or, refl, sym, ap, subst, ◌∙◌}
+use Rattle.std.proofs.Common.{arith, drop-cons}
 use Rattle.std.specs.Prelude.{unwrap_or}
 use Rattle.std.specs.List.{concat}
 use Rattle.std.proofs.lemmas.Bool.{cases_lt}
-use Rattle.std.proofs.lemmas.List.{length-take-le, length-map}
+use Rattle.std.proofs.lemmas.List.{length-take-le}
 use Rattle.std.proofs.Math.Nat.{mod-zero, mul-zero, mul-div_cancel, mul-mod_left, add-mul, div-mul-le_self}
 use Rattle.std.proofs.Common.{mul-le-mul_right}
 use Rattle.std.proofs.lemmas.Slice.{take-put_mid}
@@ -14,9 +14,11 @@ use Rattle.tree_model.specs.Tree.{Pages}
 use Rattle.tree_model.specs.Content.{run_bytes}
 use Rattle.tree_model.proofs.PageCountLaws.{run_bytes-add}
 use Rattle.page_port.specs.Pages.{IsWhole}
-use Rattle.span_store.specs.Held.{HeldSpan, bytes_in, span_of, spans_of}
+use Rattle.span_store.specs.Held.{HeldSpan, bytes_in}
 use Rattle.span_store.specs.Order.{HaveRun, InOrder, no_span}
-use Rattle.span_store.proofs.SpanLists.{IsIn, IsNear, in_span, near-held, page_in-inside, page_of-inside, span_at}
+use Rattle.span_store.specs.Pieces.{IsAt, IsAtOrEnd, piece_at, rank_of, spans_in}
+use Rattle.span_store.proofs.SpanLists.{IsIn, IsNear, end_of, near-held, near-next, page_in-inside, page_of-inside}
+use Rattle.span_store.proofs.InPieces.{at_is, at_rank}
 
 -- only the pages of the run count
 pub run_bytes-same : (at other : Pages) (first n : ℕ) → ((q : ℕ) → first ≤ q → q < first + n → at q ≡ other q) →
@@ -131,30 +133,48 @@ part_length a b k bytes e fits =
     let same : b - a ≡ k = omega arith in
     ap (λ (j : ℕ). length (take j (drop a bytes))) same ∙ length-take-le k (drop a bytes) (omega (arith, length-drop a bytes))
 
--- one turn: the span at i, which the code sees as x, has the next page of the run
-pub record IsTurn {X : Type 0} (start : X → ℕ) (contents : X → List (List ℕ)) (items : List X) (page i : ℕ) (x : X) : Type 0 where
-  pub here : IsIn (spans_of start contents items) i page
-  pub same : get_or (spans_of start contents items) i no_span ≡ span_of start contents x
-  pub from : start x ≤ page
-  pub to : page < start x + length (contents x)
+-- one turn: the span s, at j of the piece at i, has the next page of the run
+pub record IsTurn (ps : List (List HeldSpan)) (page i j : ℕ) (s : HeldSpan) : Type 0 where
+  pub at : IsAt ps i j
+  pub here : IsIn (spans_in ps) (rank_of ps i j) page
+  pub same : get_or (spans_in ps) (rank_of ps i j) no_span ≡ s
+  pub own : get_or (piece_at ps i) j no_span ≡ s
+  pub from : s.first ≤ page
+  pub to : page < end_of s
 
-pub index_in : {X : Type 0} (start : X → ℕ) (contents : X → List (List ℕ)) (items : List X) (first n pages done page i : ℕ) →
-    HaveRun (spans_of start contents items) first n → pages ≡ n → page ≡ first + done → done < pages
-    → (done < pages → IsNear (spans_of start contents items) i page) → i < length items
-index_in start contents items first n pages done page i held count e more near =
-    let here = next_in (spans_of start contents items) first n done page i held e (omega arith) (near more) in
-    let within = here.within in
-    let same = length-map items (span_of start contents) in
-    omega arith
+-- its place is there
+pub turn_at : (ps : List (List HeldSpan)) (first n pages done page i j : ℕ) → HaveRun (spans_in ps) first n → pages ≡ n →
+    page ≡ first + done → done < pages → IsAtOrEnd ps i j → (done < pages → IsNear (spans_in ps) (rank_of ps i j) page) → IsAt ps i j
+turn_at ps first n pages done page i j held count e more at near =
+    let here = next_in (spans_in ps) first n done page (rank_of ps i j) held e (omega (arith, more, count)) (near more) in
+    at_is ps i j at here.within
 
-pub turn_in : {X : Type 0} (start : X → ℕ) (contents : X → List (List ℕ)) (items : List X) (first n pages done page i : ℕ) (x : X) →
-    HaveRun (spans_of start contents items) first n → pages ≡ n → page ≡ first + done → done < pages
-    → (done < pages → IsNear (spans_of start contents items) i page) → x ≡ get_or items i x → IsTurn start contents items page i x
-turn_in start contents items first n pages done page i x held count e more near read =
-    let here = next_in (spans_of start contents items) first n done page i held e (omega arith) (near more) in
-    let same = span_at start contents items i x (index_in start contents items first n pages done page i held count e more near) read in
-    let inside = in_span start contents (spans_of start contents items) i page x here same in
-    record { here = here; same = same; from = inside.0; to = inside.1 }
+pub turn_in : (ps : List (List HeldSpan)) (first n pages done page i j : ℕ) (s : HeldSpan) → HaveRun (spans_in ps) first n → pages ≡ n →
+    page ≡ first + done → done < pages → IsAtOrEnd ps i j → (done < pages → IsNear (spans_in ps) (rank_of ps i j) page) →
+    s ≡ get_or (spans_in ps) (rank_of ps i j) no_span → IsTurn ps page i j s
+turn_in ps first n pages done page i j s held count e more at near read =
+    let here = next_in (spans_in ps) first n done page (rank_of ps i j) held e (omega (arith, more, count)) (near more) in
+    let there = at_is ps i j at here.within in
+    let begin = ap (λ (t : HeldSpan). t.first) read in
+    let end = ap end_of read in
+    let from = here.from in
+    let to = here.to in
+    record {
+      at = there;
+      here = here;
+      same = sym read;
+      own = sym (at_rank ps i j there) ∙ sym read;
+      from = omega (arith, from, begin);
+      to = omega (arith, to, end);
+    }
+
+-- the next span is near the page where this one ends
+pub turn_next : (ps : List (List HeldSpan)) (page next i j a b : ℕ) (s : HeldSpan) → IsTurn ps page i j s → InOrder 0 (spans_in ps) →
+    rank_of ps a b ≡ rank_of ps i j + 1 → next ≡ end_of s → IsNear (spans_in ps) (rank_of ps a b) next
+turn_next ps page next i j a b s turn order after e =
+    let end = ap end_of turn.same in
+    subst (λ (k : ℕ). IsNear (spans_in ps) k next) (sym after)
+    (subst (IsNear (spans_in ps) (rank_of ps i j + 1)) (end ∙ sym e) (near-next (spans_in ps) (rank_of ps i j) order turn.here.within))
 
 -- what the part of a span holds
 pub part_bytes : (spans : List HeldSpan) (i page count : ℕ) (s : HeldSpan) → InOrder 0 spans → i < length spans →

@@ -2,12 +2,12 @@
 use Rattle.std.proofs.Common.{◌≡◌, ℕ, zero, suc, ◌+◌, ◌-◌, ◌<◌, ◌≤◌, Bool, true, false, ◌||◌, List, [], ◌∷◌, ◌++◌}
 use Rattle.std.proofs.Common.{length, take, drop, get_or, Option, Some, None, refl, sym, ap, subst, ◌∙◌, inl, inr}
 use Rattle.std.proofs.Common.{arith, drop-cons, take-append-drop}
-use Rattle.std.specs.Prelude.{is_some, ◌==◌, IsTrue, slice_get}
-use Rattle.std.specs.Option.{option_or, option_map}
-use Rattle.std.proofs.lemmas.List.{length-map, drop-drop, drop_all, take_more, take_all, get_or-map}
+use Rattle.std.specs.Prelude.{is_some, ◌==◌, IsTrue}
+use Rattle.std.specs.Option.{option_or}
+use Rattle.std.proofs.lemmas.List.{drop-drop, drop_all, take_more, take_all, get_or-map}
 use Rattle.std.proofs.lemmas.List.Folds.{list_any-append}
 use Rattle.std.proofs.lemmas.Bool.{cases_lt, le-leb, lt-leb, ne_eqb, false≢true}
-use Rattle.std.proofs.lemmas.Option.{slice_get-get_or, slice_get_past, slice_get_within, slice_get-map, get_or_from_slice_get}
+use Rattle.std.proofs.lemmas.Option.{slice_get-get_or, slice_get_past}
 use Rattle.span_store.specs.Held.{HeldSpan, span_of, spans_of, page_of, page_in, begins_in}
 use Rattle.span_store.specs.Order.{InOrder, IsRank, no_span, first_at}
 
@@ -302,62 +302,3 @@ place-some spans page zero order place held =
     let from = here.from in
     absurd (omega arith)
 place-some spans page (suc j) order place held = omega arith
-
--- the span that has a page, as the code sees it
-pub in_span : {X : Type 0} (start : X → ℕ) (contents : X → List (List ℕ)) (spans : List HeldSpan) (i page : ℕ) (x : X) → IsIn spans i page →
-    get_or spans i no_span ≡ span_of start contents x
-    → (start x ≤ page) × (page < start x + length (contents x))
-in_span start contents spans i page x here e =
-    let first = ap (λ (s : HeldSpan). s.first) e in
-    let count = ap (λ (s : HeldSpan). length s.pages) e in
-    let from = here.from in
-    let to = here.to in
-    (omega arith, omega arith)
-
--- the last of the spans ends where all of them end
-last_end-last : (low : ℕ) (xs : List HeldSpan) (n : ℕ) (s : HeldSpan) → suc n ≡ length xs → slice_get xs n ≡ Some s →
-    last_end low xs ≡ end_of s
-last_end-last low [] n s e h = absurd (omega (arith, e))
-last_end-last low (x ∷ []) zero s e h = ap end_of (get_or_from_slice_get (x ∷ []) 0 s x h)
-last_end-last low (x ∷ []) (suc n) s e h = absurd (omega (arith, e))
-last_end-last low (x ∷ y ∷ xs) zero s e h = absurd (omega (arith, e))
-last_end-last low (x ∷ y ∷ xs) (suc n) s e h = last_end-last (end_of x) (y ∷ xs) n s (omega (arith, e)) h
-
--- a page that is held lies before the end of the last span
-pub below_end : {X : Type 0} (start : X → ℕ) (contents : X → List (List ℕ)) (items : List X) (x : X) (q : ℕ) →
-    InOrder 0 (spans_of start contents items)
-    → Some x ≡ slice_get items (length items - 1) → IsTrue (is_some (page_in (spans_of start contents items) q)) →
-    q < start x + length (contents x)
-below_end start contents items x q order here held =
-    let f = span_of start contents in
-    let within = slice_get_within items (length items - 1) x (sym here) in
-    let count : length (spans_of start contents items) ≡ length items = length-map items f in
-    let last : slice_get (spans_of start contents items) (length items - 1) ≡ Some (f x) =
-    slice_get-map f items (length items - 1) ∙ ap (option_map f) (sym here) in
-    let ends = last_end-last 0 (spans_of start contents items) (length items - 1) (f x) (omega (arith, within, count)) last in
-    elim (cases_lt q (end_of (f x))) [
-      | inl below ↦ below
-      | inr beyond ↦
-          absurd
-          (false≢true (sym (ap is_some (page_in-beyond 0 (spans_of start contents items) q order (omega (arith, ends, beyond)))) ∙ held))
-    ]
-
--- the last page of the last span is held
-pub held_end : {X : Type 0} (start : X → ℕ) (contents : X → List (List ℕ)) (items : List X) (x : X) →
-    InOrder 0 (spans_of start contents items) → Some x ≡ slice_get items (length items - 1) → 1 ≤ length (contents x) →
-    IsTrue (is_some (page_in (spans_of start contents items) (start x + length (contents x) - 1)))
-held_end start contents items x order here some =
-    let rows = spans_of start contents items in
-    let within = slice_get_within items (length items - 1) x (sym here) in
-    let read = sym (get_or_from_slice_get items (length items - 1) x x (sym here)) in
-    let same = span_at start contents items (length items - 1) x within read in
-    let last : get_or rows (length items - 1) no_span ≡ span_of start contents x = same in
-    let q = start x + length (contents x) - 1 in
-    let inside : IsIn rows (length items - 1) q = record {
-      within = omega (arith, within, length-map items (span_of start contents));
-      from = omega (arith, ap (λ (s : HeldSpan). s.first) last, some);
-      to = omega (arith, ap end_of last, some);
-    } in
-    ap is_some
-    (page_in-inside rows (length items - 1) q order inside
-    ∙ page_of-inside (get_or rows (length items - 1) no_span) q inside.from inside.to)

@@ -9,9 +9,12 @@ ghost use Rattle.span_store.specs.Held.{AllSized, HoldsRun, IsEmpty, IsEnd, Lack
 ghost use Rattle.span_store.specs.Held.{bytes_on, has, is_border, span_of};
 ghost use Rattle.span_store.specs.Calls.{IsAdded, IsCutAt, IsJoined, IsOverwritten, IsRemoved};
 
-use crate::pieces::{cut, join, put};
-use crate::place::{border_at, place_of};
+use crate::border::{border_at, join_in};
+use crate::filing::{cut_in, put_in, take_out};
+use crate::piece::{HALF, Piece};
+use crate::place::{Place, last_begun, span_at};
 use crate::read::read_spans;
+use crate::row::prepare;
 use crate::run::{has_run, lacks_run};
 use crate::write::write_spans;
 use page_port::{DeviceFault, Port, Span};
@@ -20,26 +23,33 @@ use std::marker::Model;
 
 /// Spans that no page is in twice, found by their first pages.
 ///
-/// They are kept in the order of their pages, so one is found by halving. To put one in or take one
-/// out moves the records of those behind it, and no page.
+/// They are kept in the order of their pages, in pieces of at most 128 spans. A span is found by
+/// halving, among the pieces and within one. A change moves records of one piece, and no page, so
+/// its cost doesn't grow with the number of spans. Only where a full piece is split by a spare one,
+/// which `reserve` made, or one has no span left, the records of the pieces behind it are moved.
 #[derive(Drop)]
 pub struct Holdings<S: Span> {
-    spans: Vec<S>,
+    alloc: Global,
+    pieces: Vec<Piece<S>>,
+    spare: Vec<Piece<S>>,
+    // For how many more spans there is room.
+    free: usize,
 }
 
 impl<S: Span> Model for Holdings<S> {
-    ghost use Rattle.std.specs.Prelude.{vec_capacity};
-    ghost use Rattle.span_store.specs.Held.{Held, spans_of};
-    ghost use Rattle.span_store.specs.Order.{InOrder};
+    ghost use Rattle.std.specs.Prelude.{◌+◌, length, vec_capacity};
+    ghost use Rattle.span_store.specs.Held.{Held};
+    ghost use Rattle.span_store.specs.Pieces.{IsFiled, spans_in};
 
     ghost Value = { Held };
 
     ghost view = { λ h. record {
-      spans = spans_of S.start S.contents h.spans.items;
-      room = vec_capacity h.spans;
+      spans = spans_in h.pieces.items;
+      room = length (spans_in h.pieces.items) + h.free;
     } };
 
-    ghost invariant = { λ h. InOrder 0 (spans_of S.start S.contents h.spans.items) };
+    ghost invariant = { λ h. IsFiled h.pieces.items h.spare.items
+        (vec_capacity h.pieces) (vec_capacity h.spare) h.free };
 }
 
 impl<S: Span> Holdings<S> {
@@ -48,11 +58,15 @@ impl<S: Span> Holdings<S> {
         ensures nothing { result.spans ≡ [] }
     {
         Holdings {
-            spans: Vec::new(alloc),
+            alloc,
+            pieces: Vec::new(alloc),
+            spare: Vec::new(alloc),
+            free: 0,
         }
     }
 
-    /// Makes room for `n` more spans.
+    /// Makes room for `n` more spans: it takes the memory of `n` pieces at most, and of one for
+    /// every 64 spans beside one for each piece where these are fewer.
     ///
     /// # Errors
     /// There was no memory: nothing changed.
@@ -63,11 +77,19 @@ impl<S: Span> Holdings<S> {
         ensures enough { length self.old.spans + n ≤ self.old.room → IsOk result }
         ensures err { OnErr result (self.new ≡ self.old) }
     {
-        self.spans.reserve(n)
+        if n <= self.free {
+            return Ok(());
+        }
+        // Each span takes a spare piece at most; and all take one for every 64 of them, and one for
+        // each piece that there is.
+        let wanted = n.min(n / HALF + 2 + self.pieces.len());
+        prepare(&mut self.pieces, &mut self.spare, self.alloc, wanted)?;
+        self.free = n;
+        Ok(())
     }
 
     /// Holds a span more. It takes no memory: `reserve` made the room. It moves the records of the
-    /// spans behind this one: none where spans are added in the order of their pages.
+    /// spans behind this one in its piece.
     pub fn add(&mut self, span: S)
         requires room { length self.old.spans < self.old.room }
         requires apart { LacksRun self.old (S.start span) (length (S.contents span)) }
@@ -78,13 +100,13 @@ impl<S: Span> Holdings<S> {
         // That a span has a page at least keeps the order of the spans.
         let pages = span.pages();
         prove!(pages > 0);
-        let index = place_of(self.spans.as_slice(), span.first() as u64);
-        put(&mut self.spans, index, span);
+        self.free -= 1;
+        put_in(&mut self.pieces, &mut self.spare, span);
     }
 
     /// Cuts the span that has this page, so that one begins there. Where one begins there already,
     /// or there is room for one more, it takes no memory. A cut moves the records of the spans
-    /// behind the page.
+    /// behind the page in its piece.
     ///
     /// # Errors
     /// There was no memory: nothing changed.
@@ -98,33 +120,35 @@ impl<S: Span> Holdings<S> {
         ensures enough { length self.old.spans < self.old.room → IsOk result }
         ensures err { OnErr result (self.new ≡ self.old) }
     {
-        let index = place_of(self.spans.as_slice(), page as u64) - 1;
-        let before = page - self.spans[index].first();
-        if before == 0 {
+        let Some(at) = last_begun(self.pieces.as_slice(), page as u64) else {
+            unreachable!()
+        };
+        if span_at(self.pieces.as_slice(), at).first() == page {
             return Ok(());
         }
-        self.spans.reserve(1)?;
-        cut(&mut self.spans, index, before);
+        self.reserve(1)?;
+        self.free -= 1;
+        cut_in(&mut self.pieces, &mut self.spare, page);
         Ok(())
     }
 
     /// Makes the span that ends before this page and the one that begins at it one, where there are
     /// both: the reverse of a cut. It takes no memory, and moves the records of the spans behind
-    /// the page.
+    /// the page in its piece.
     pub fn join_at(&mut self, page: u32)
         ensures joined { IsTrue (is_border self.old page) → IsJoined page self.old self.new }
         ensures unchanged { is_border self.old page ≡ false → self.new ≡ self.old }
         ensures sized { (size : ℕ) → AllSized S.tells size self.old
             → AllSized S.tells size self.new }
     {
-        let Some(index) = border_at(self.spans.as_slice(), page) else {
+        let Some(border) = border_at(self.pieces.as_slice(), page) else {
             return;
         };
-        join(&mut self.spans, index);
+        join_in(&mut self.pieces, &mut self.spare, border);
     }
 
     /// Takes out the span that begins at this page. It takes no memory, and moves the records of
-    /// the spans behind this one.
+    /// the spans behind this one in its piece.
     pub fn remove(&mut self, first: u32) -> S
         requires { IsTrue (begins self.old first) }
         ensures first { S.start result ≡ first }
@@ -132,8 +156,10 @@ impl<S: Span> Holdings<S> {
         ensures sized { (size : ℕ) → AllSized S.tells size self.old
             → IsSized S.tells size (S.contents result) × AllSized S.tells size self.new }
     {
-        let index = place_of(self.spans.as_slice(), first as u64) - 1;
-        self.spans.remove(index)
+        let Some(at) = last_begun(self.pieces.as_slice(), first as u64) else {
+            unreachable!()
+        };
+        take_out(&mut self.pieces, &mut self.spare, at)
     }
 
     /// Takes out some span. `None` comes exactly where no page is held. It takes no memory, and
@@ -147,7 +173,13 @@ impl<S: Span> Holdings<S> {
         ensures nothing { IfNone result (self.old.spans ≡ []) }
         ensures unchanged { IfNone result (self.new ≡ self.old) }
     {
-        self.spans.pop()
+        if self.pieces.is_empty() {
+            return None;
+        }
+        let piece = self.pieces.len() - 1;
+        let index = self.pieces[piece].len() - 1;
+        let last = Place { piece, index };
+        Some(take_out(&mut self.pieces, &mut self.spare, last))
     }
 
     /// One more than the number of the last page that is held, 0 where none is. It looks at one
@@ -155,8 +187,8 @@ impl<S: Span> Holdings<S> {
     pub fn end(&self) -> u32
         ensures { IsEnd self.now result }
     {
-        match self.spans.last() {
-            Some(span) => span.first() + span.pages(),
+        match self.pieces.last() {
+            Some(piece) => piece.end(),
             None => 0,
         }
     }
@@ -165,14 +197,14 @@ impl<S: Span> Holdings<S> {
     pub fn holds(&self, first: u32, pages: u32) -> bool
         ensures { IsTrue result ↔ HoldsRun self.now first pages }
     {
-        has_run(self.spans.as_slice(), first, pages)
+        has_run(self.pieces.as_slice(), first, pages)
     }
 
     /// Is none of the `pages` pages from `first` on held? It looks at one span, found by halving.
     pub fn lacks(&self, first: u32, pages: u32) -> bool
         ensures { IsTrue result ↔ LacksRun self.now first pages }
     {
-        lacks_run(self.spans.as_slice(), first, pages)
+        lacks_run(self.pieces.as_slice(), first, pages)
     }
 
     /// Reads the pages from `first` on into `out`, by one call of the device for each span that has
@@ -198,7 +230,7 @@ impl<S: Span> Holdings<S> {
         ensures cause { HasCause (P.meter port.old).faults (P.meter port.new).faults
             (IsErr result) }
     {
-        read_spans(self.spans.as_slice(), port, first, out)
+        read_spans(self.pieces.as_slice(), port, first, out)
     }
 
     /// Writes `bytes` to the pages from `first` on, by one call of the device for each span that
@@ -228,6 +260,6 @@ impl<S: Span> Holdings<S> {
         ensures cause { HasCause (P.meter port.old).faults (P.meter port.new).faults
             (IsErr result) }
     {
-        write_spans(&mut self.spans, port, first, bytes)
+        write_spans(&mut self.pieces, port, first, bytes)
     }
 }

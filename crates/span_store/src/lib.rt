@@ -4,11 +4,15 @@
 //! the device for each span that it touches, and a span is found without looking at all of them.
 #![tactic(auto)]
 
+mod border;
+mod filing;
 mod holdings;
-mod pieces;
+mod piece;
 mod place;
 mod read;
+mod row;
 mod run;
+mod spans;
 #[cfg(test)]
 mod tests;
 mod write;

@@ -4,28 +4,30 @@ ghost use Rattle.std.specs.Prelude.{◌≡◌, ◌+◌, ◌-◌, ◌*◌, ◌/�
 ghost use Rattle.tree_model.specs.Content.{run_bytes};
 ghost use Rattle.fault_count.specs.Counts.{HasCause, Reads, after_read};
 ghost use Rattle.page_port.specs.Pages.{IsWhole};
-ghost use Rattle.span_store.specs.Held.{bytes_in, spans_of};
+ghost use Rattle.span_store.specs.Held.{bytes_in};
 ghost use Rattle.span_store.specs.Order.{EachSized, HaveRun, InOrder};
+ghost use Rattle.span_store.specs.Pieces.{AreWithinLimit, spans_in};
 
-use crate::pieces::pages_from;
-use crate::place::place_of;
+use crate::piece::Piece;
+use crate::place::{after, last_begun, span_at};
+use crate::spans::pages_from;
 use page_port::{DeviceFault, Port, Span};
 
 /// Reads the pages from `first` on into `out`, by one call of the device for each span.
 pub fn read_spans<P: Port>(
-    spans: &[P::S],
+    pieces: &[Piece<P::S>],
     port: &mut P,
     first: u32,
     out: &mut [u8],
 ) -> Result<(), DeviceFault>
-    requires order { InOrder 0 (spans_of P.S.start P.S.contents spans.now) }
+    requires filled { AreWithinLimit pieces.now }
+    requires order { InOrder 0 (spans_in pieces.now) }
     requires whole { IsWhole (P.meter port.old).page (length out.old) }
-    requires held { HaveRun (spans_of P.S.start P.S.contents spans.now) first
+    requires held { HaveRun (spans_in pieces.now) first
         (length out.old / (P.meter port.old).page) }
-    requires sized { EachSized P.S.tells (P.meter port.old).page
-        (spans_of P.S.start P.S.contents spans.now) }
+    requires sized { EachSized P.S.tells (P.meter port.old).page (spans_in pieces.now) }
     ensures bytes { OnOk result (IsTrue P.S.tells → out.new
-        ≡ run_bytes (bytes_in (spans_of P.S.start P.S.contents spans.now)) first
+        ≡ run_bytes (bytes_in (spans_in pieces.now)) first
         (length out.old / (P.meter port.old).page)) }
     ensures counts { OnOk result (P.meter port.new ≡ after_read (P.meter port.old)
         (length out.old / (P.meter port.old).page) (P.meter port.new).faults) }
@@ -35,17 +37,19 @@ pub fn read_spans<P: Port>(
 {
     let size = port.page() as usize;
     let pages = out.len() / size;
-    let mut index = place_of(spans, first as u64) - 1;
+    let Some(mut at) = last_begun(pieces, first as u64) else {
+        unreachable!()
+    };
     let mut page = first;
     let mut done = 0;
     while done < pages {
-        let span = &spans[index];
+        let span = span_at(pieces, at);
         let count = pages_from(span, page, pages - done);
         let part = &mut out[done * size..(done + count) * size];
         port.read(span, page - span.first(), part)?;
         done += count;
         page += count as u32;
-        index += 1;
+        at = after(pieces, at);
     }
     Ok(())
 }

@@ -255,3 +255,144 @@ fn spans_that_meet_are_joined_and_read_by_one_call(rt: HostRuntime) -> Result<()
     assert!(rt; held.take_any().is_none());
     Ok(())
 }
+
+/// What a plain table says of a page: 0 where it isn't held, 2 where a span begins, else 1.
+fn mark_of(plain: &[u8], page: u32) -> u8 {
+    plain.get(page as usize).copied().unwrap_or(0)
+}
+
+/// Sets the mark of a page.
+fn mark(plain: &mut Vec<u8>, page: u32, value: u8) {
+    if let Some(place) = plain.get_mut(page as usize) {
+        *place = value;
+    }
+}
+
+/// How many pages the span has from this page of its on.
+fn pages_of(plain: &[u8], first: u32) -> u32 {
+    for n in 1..1024 {
+        if mark_of(plain, first.saturating_add(n)) != 1 {
+            return n;
+        }
+    }
+    1024
+}
+
+/// Adds a span to both.
+fn put_both(rt: &impl Abort, held: &mut Holdings<MemSpan>, plain: &mut Vec<u8>, span: MemSpan) {
+    for n in 0..span.pages() {
+        mark(
+            plain,
+            span.first().saturating_add(n),
+            if n == 0 { 2 } else { 1 },
+        );
+    }
+    assert!(rt; held.lacks(span.first(), span.pages()));
+    held.reserve(1).expect(rt, "room for a span");
+    held.add(span);
+}
+
+/// Cuts both at a page.
+fn cut_both(rt: &impl Abort, held: &mut Holdings<MemSpan>, plain: &mut Vec<u8>, page: u32) {
+    if mark_of(plain, page) == 0 {
+        assert!(rt; held.lacks(page, 1), "{page}");
+        return;
+    }
+    assert!(rt; held.holds(page, 1), "{page}");
+    held.cut_at(page).expect(rt, "room for a span");
+    mark(plain, page, 2);
+}
+
+/// Takes the pages of a span from a page on out of both.
+fn take_both(
+    rt: &impl Abort,
+    held: &mut Holdings<MemSpan>,
+    plain: &mut Vec<u8>,
+    page: u32,
+) -> Option<MemSpan> {
+    if mark_of(plain, page) == 0 {
+        return None;
+    }
+    assert!(rt; held.holds(page, 1), "{page}");
+    held.cut_at(page).expect(rt, "room for a span");
+    let span = held.remove(page);
+    check_span(rt, plain, &span);
+    Some(span)
+}
+
+/// A span that was taken out is one of the plain table's; it is taken out there too.
+fn check_span(rt: &impl Abort, plain: &mut Vec<u8>, span: &MemSpan) {
+    let first = span.first();
+    assert!(rt; mark_of(plain, first) != 0, "{first}");
+    assert_eq!(rt; span.pages(), pages_of(plain, first), "{first}");
+    for n in 0..span.pages() {
+        mark(plain, span.first().saturating_add(n), 0);
+    }
+}
+
+/// Joins both at a page.
+fn join_both(held: &mut Holdings<MemSpan>, plain: &mut Vec<u8>, page: u32) {
+    held.join_at(page);
+    if page > 0 && mark_of(plain, page) == 2 && mark_of(plain, page - 1) != 0 {
+        mark(plain, page, 1);
+    }
+}
+
+/// Both say the same of a run.
+fn ask_both(rt: &impl Abort, held: &Holdings<MemSpan>, plain: &[u8], first: u32, pages: u32) {
+    let mut all = true;
+    let mut none = true;
+    for n in 0..pages {
+        if mark_of(plain, first.saturating_add(n)) == 0 {
+            all = false;
+        } else {
+            none = false;
+        }
+    }
+    assert_eq!(rt; held.holds(first, pages), all, "{first} {pages}");
+    assert_eq!(rt; held.lacks(first, pages), none, "{first} {pages}");
+}
+
+#[test]
+fn pieces_hold_what_a_plain_table_of_pages_says(rt: HostRuntime) -> Result<(), AllocError> {
+    let bytes = vec![in rt.alloc(); 0; 262144]?;
+    let mut bay = MemBay::new(rt.alloc(), bytes, Vec::new(rt.alloc()));
+    let span = bay.mount(256, 1024).expect(&rt, "1024 pages");
+    let mut plain = vec![in rt.alloc(); 0; 1024]?;
+    let mut held = Holdings::new(rt.alloc());
+    put_both(&rt, &mut held, &mut plain, span);
+    for page in 0..1024 {
+        cut_both(&rt, &mut held, &mut plain, page * 389 % 1024);
+    }
+    let mut out = Vec::new(rt.alloc());
+    let mut seed: u64 = 1;
+    for _ in 0..8000 {
+        seed = seed
+            .wrapping_mul(6364136223846793005)
+            .wrapping_add(1442695040888963407);
+        let page = (seed >> 40) as u32 % 1024;
+        match seed >> 60 {
+            0..=3 => {
+                if let Some(span) = take_both(&rt, &mut held, &mut plain, page) {
+                    out.push(span).expect(&rt, "room for a span");
+                }
+            }
+            4..=7 => {
+                if let Some(span) = out.pop() {
+                    put_both(&rt, &mut held, &mut plain, span);
+                }
+            }
+            8..=10 => cut_both(&rt, &mut held, &mut plain, page),
+            11..=13 => join_both(&mut held, &mut plain, page),
+            _ => ask_both(&rt, &held, &plain, page, (seed >> 32) as u32 % 8),
+        }
+    }
+    for _ in 0..1024 {
+        if let Some(span) = held.take_any() {
+            check_span(&rt, &mut plain, &span);
+        }
+    }
+    assert!(rt; held.take_any().is_none());
+    assert!(rt; plain.iter().all(|mark| *mark == 0));
+    Ok(())
+}

@@ -29,7 +29,7 @@ use Rattle.moment_model.specs.Edit.{accepts}
 use Rattle.moment_model.specs.Moment.{ObjectSlot, Moment, object_slot}
 use Rattle.moment_model.specs.Run.{Lays, answer_to, IsGot, IsRefused, OkToEdit, NoSpaceToEdit, AreCounts, Agrees}
 use Rattle.moment_model.specs.Version.{version_bytes}
-use Rattle.edit_laws.specs.Keeping.{KeepsSoundness}
+use Rattle.soundness_laws.specs.Keeping.{KeepsSoundness}
 use Rattle.effect_laws.specs.Lengths.{plain_length}
 use Rattle.effect_laws.proofs.EffectLemmas.{accepted-done}
 use Rattle.length_laws.specs.KeepsLength.{KeepsLength}

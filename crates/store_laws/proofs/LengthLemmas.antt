@@ -34,13 +34,13 @@ use Rattle.moment_model.specs.Run.{AllAgree, moment_of}
 use Rattle.moment_model.specs.Version.{version_bytes}
 use Rattle.moment_laws.proofs.EndLemmas.{changed-cases}
 use Rattle.moment_laws.proofs.GrantLemmas.{free_of-spaces}
-use Rattle.edit_laws.specs.Keeping.{KeepsSoundness}
-use Rattle.edit_laws.specs.Tail.{HaveTails}
+use Rattle.soundness_laws.specs.Keeping.{KeepsSoundness}
+use Rattle.change_laws.specs.Tail.{HaveTails}
 use Rattle.effect_laws.specs.Lengths.{plain_length}
 use Rattle.effect_laws.proofs.EffectLemmas.{edited-length}
 use Rattle.length_laws.specs.KeepsLength.{KeepsLength}
-use Rattle.run_laws.specs.InOrder.{is_held}
-use Rattle.run_laws.proofs.RunLemmas.{same_test, run-sound, moment-length}
+use Rattle.soundness_laws.specs.InOrder.{is_held}
+use Rattle.soundness_laws.proofs.RunLemmas.{same_test, run-sound, moment-length}
 use Rattle.store_model.specs.Store.{Store, HoldsBy, AreToldSteps}
 use Rattle.store_laws.specs.Lengths.{HasLengths}
 use Rattle.store_laws.specs.Runs.{AllAskThresholds, IsSoundRest}

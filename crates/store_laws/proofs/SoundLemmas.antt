@@ -21,11 +21,11 @@ use Rattle.machine.proofs.Sizes.{seats-run}
 use Rattle.machine.proofs.Soundness.{Sound-run}
 use Rattle.moment_model.specs.Moment.{Moment, IsSound}
 use Rattle.moment_model.specs.Run.{Lays, Run, all_aborted}
-use Rattle.edit_laws.specs.Keeping.{KeepsSoundness}
-use Rattle.edit_laws.specs.Laying.{AsksThreshold}
-use Rattle.edit_laws.specs.Tail.{HaveTails}
-use Rattle.run_laws.specs.InOrder.{is_held, IsInOrder, AllInOrder}
-use Rattle.run_laws.proofs.RunLemmas.{run-sound, run-ends}
+use Rattle.soundness_laws.specs.Keeping.{KeepsSoundness}
+use Rattle.soundness_laws.specs.Keeping.{AsksThreshold}
+use Rattle.change_laws.specs.Tail.{HaveTails}
+use Rattle.soundness_laws.specs.InOrder.{is_held, IsInOrder, AllInOrder}
+use Rattle.soundness_laws.proofs.RunLemmas.{run-sound, run-ends}
 use Rattle.store_model.specs.Store.{Store, AreToldSteps}
 use Rattle.store_laws.specs.Runs.{AllAskThresholds, IsSoundRest}
 use Rattle.store_laws.proofs.StepLemmas.{told-run}

@@ -40,11 +40,11 @@ use Rattle.effect_laws.specs.Lengths.{plain_length}
 use Rattle.history.specs.Serial.{Serial}
 use Rattle.history.specs.Refusals.{AllCaused}
 use Rattle.history.specs.Transactions.{ends}
-use Rattle.edit_laws.specs.Laying.{AsksThreshold}
-use Rattle.edit_laws.specs.Tail.{HaveTails}
-use Rattle.edit_laws.proofs.EditLemmas.{edited-sound}
+use Rattle.soundness_laws.specs.Keeping.{AsksThreshold}
+use Rattle.change_laws.specs.Tail.{HaveTails}
+use Rattle.soundness_laws.proofs.EditLemmas.{edited-sound}
 use Rattle.length_laws.proofs.LengthLemmas.{trees-keep_length}
-use Rattle.run_laws.specs.InOrder.{is_held}
+use Rattle.soundness_laws.specs.InOrder.{is_held}
 use Rattle.store_moment_laws.proofs.FirstLemmas.{fresh-absent, absent-sound, absent-tails}
 use Rattle.store_laws.specs.Lengths.{HasLengths}
 use Rattle.store_laws.specs.Runs.{IsToldRun, AllAskThresholds, IsSoundRest, asked}

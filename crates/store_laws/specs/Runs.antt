@@ -12,8 +12,8 @@ use Rattle.machine.specs.Machine.{AtRest}
 use Rattle.machine.specs.Runs.{IsRun, state_after}
 use Rattle.moment_model.specs.Moment.{IsSound}
 use Rattle.moment_model.specs.Run.{Lays, AllAgree, moment_of}
-use Rattle.edit_laws.specs.Laying.{AsksThreshold}
-use Rattle.edit_laws.specs.Tail.{HaveTails}
+use Rattle.soundness_laws.specs.Keeping.{AsksThreshold}
+use Rattle.change_laws.specs.Tail.{HaveTails}
 use Rattle.store_model.specs.Store.{Store}
 
 -- the events are a run of the machine, each agrees with the moment in which it comes, and the

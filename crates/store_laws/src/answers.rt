@@ -2,7 +2,7 @@
 
 ghost use Rattle.std.specs.Prelude.{◌≡◌, List, map};
 ghost use Rattle.history.specs.Event.{Event};
-ghost use Rattle.edit_laws.specs.Keeping.{KeepsSoundness};
+ghost use Rattle.soundness_laws.specs.Keeping.{KeepsSoundness};
 ghost use Rattle.length_laws.specs.KeepsLength.{KeepsLength};
 ghost use Rattle.store_model.specs.Store.{Store, AreToldSteps};
 ghost use Rattle.store_laws.specs.Lengths.{HasLengths};

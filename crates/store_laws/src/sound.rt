@@ -7,9 +7,9 @@ ghost use Rattle.machine.specs.Machine.{Machine, AtRest};
 ghost use Rattle.machine.specs.Runs.{IsRun};
 ghost use Rattle.moment_model.specs.Moment.{IsSound};
 ghost use Rattle.moment_model.specs.Run.{all_aborted};
-ghost use Rattle.edit_laws.specs.Keeping.{KeepsSoundness};
-ghost use Rattle.edit_laws.specs.Tail.{HaveTails};
-ghost use Rattle.run_laws.specs.InOrder.{is_held, AllInOrder};
+ghost use Rattle.soundness_laws.specs.Keeping.{KeepsSoundness};
+ghost use Rattle.change_laws.specs.Tail.{HaveTails};
+ghost use Rattle.soundness_laws.specs.InOrder.{is_held, AllInOrder};
 ghost use Rattle.store_model.specs.Store.{Store, AreToldSteps};
 ghost use Rattle.store_laws.specs.Runs.{AllAskThresholds, IsSoundRest};
 

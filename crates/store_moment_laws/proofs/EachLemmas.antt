@@ -9,7 +9,7 @@ use Rattle.moment_model.specs.Moment.{ObjectSlot, Moment, absent_slot, object_sl
 use Rattle.moment_model.specs.Edit.{settled, undone}
 use Rattle.moment_model.specs.Run.{changed_where}
 use Rattle.moment_laws.proofs.EndLemmas.{changed-cases}
-use Rattle.run_laws.proofs.RunLemmas.{changed-length}
+use Rattle.soundness_laws.proofs.RunLemmas.{changed-length}
 use Rattle.store_moment_laws.specs.Each.{changed_each, AreThose}
 
 -- ---- elements

@@ -10,7 +10,7 @@ use Rattle.moment_model.specs.Moment.{ObjectSlot, Moment, absent_slot, object_sl
 use Rattle.moment_model.specs.Moment.{all_committed, all_working, is_free, is_locked, IsAllAbsent, IsKept, IsAtRest}
 use Rattle.moment_model.specs.Moment.{IsSound}
 use Rattle.moment_laws.proofs.SumLemmas.{sum_none}
-use Rattle.edit_laws.specs.Tail.{IsTail, HaveTails}
+use Rattle.change_laws.specs.Tail.{IsTail, HaveTails}
 
 pub fresh-absent : (objects : ℕ) → IsAllAbsent (replicate objects absent_slot)
 fresh-absent objects o =

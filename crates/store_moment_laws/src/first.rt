@@ -4,7 +4,7 @@ ghost use Rattle.std.specs.Prelude.{◌≡◌, ℕ, Bool, true, false, replicate
 ghost use Rattle.geometry_model.specs.Numbers.{Numbers};
 ghost use Rattle.moment_model.specs.Moment.{Moment, absent_slot, is_free, is_locked, IsAllAbsent};
 ghost use Rattle.moment_model.specs.Moment.{IsSound};
-ghost use Rattle.edit_laws.specs.Tail.{HaveTails};
+ghost use Rattle.change_laws.specs.Tail.{HaveTails};
 
 use moment_model::Kind;
 

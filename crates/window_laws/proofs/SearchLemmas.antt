@@ -43,7 +43,7 @@ ended-next at (p ∷ ps) fits =
     ]
 
 -- those that begin before a place reach to it
-begun-reach : (at : ℕ) (ps : List Pair) → at ≤ bytes_of ps → at ≤ bytes_of (take (count_begun at ps) ps)
+pub begun-reach : (at : ℕ) (ps : List Pair) → at ≤ bytes_of ps → at ≤ bytes_of (take (count_begun at ps) ps)
 begun-reach at [] within = within
 begun-reach at (p ∷ ps) within =
     let all = sum_by-cons (λ (q : Pair). q.bytes) p ps in

@@ -1,13 +1,8 @@
--- Each block that the walk passes is compared with the largest before it.
-use Rattle.buddy_map.proofs.Best.{largest_more, largest_end}
+-- The greatest order of the whole's mask.
+use Rattle.buddy_map.proofs.Descent.{is_largest}
 use Rattle.buddy_map.proofs.place.largest_of.Goals as goal
 
-pub loop-block-preserved : goal.loop-block-preserved
-loop-block-preserved c = record {
-  cut = rw c.size.ensures c.in-Some.ensures.3;
-  largest = rw c.size.ensures (largest_more c.args.pages.now c.loop-block.from c.loop-block.largest c.in-Some.block
-      c.larger-largest.result c.in-Some.ensures c.loop-block.invariant.largest c.larger-largest.ensures);
-}
-
 pub returns : goal.returns
-returns c = largest_end c.args.pages.now c.loop-block.from c.loop-block.largest c.in_default.ensures c.loop-block.invariant.largest
+returns c = λ free tree.
+    is_largest free c.args.whole c.args.masks.now c.greatest.result tree
+    (record { found = c.greatest.ensures.found; greatest = c.greatest.ensures.greatest; none = c.greatest.ensures.none })

@@ -1,5 +1,5 @@
-use Rattle.std.proofs.Common.{rules, ◌≡◌, IsTrue, Some, None, Ok, Err, refl, sym, ap, subst, ◌∙◌}
-use Rattle.std.specs.Prelude.{option_map, Option}
+use Rattle.std.proofs.Common.{rules, ◌≡◌, IsTrue, sym, ap, ◌∙◌}
+use Rattle.std.specs.Prelude.{option_map}
 use Rattle.eos_ops.specs.declared.outcome.Outcome.TheVariants.{Done}
 use Rattle.eos_ops.specs.Edits.{outcome_in}
 use Rattle.body_double.specs.Kind.{OwnPage, plain_if}

@@ -1,5 +1,5 @@
-use Rattle.std.proofs.Common.{rules, ◌≡◌, IsTrue, Some, None, Ok, Err, refl, sym, ap, subst, ◌∙◌}
-use Rattle.std.specs.Prelude.{option_map, Option}
+use Rattle.std.proofs.Common.{sym, ap}
+use Rattle.std.specs.Prelude.{option_map}
 use Rattle.body_double.specs.Page.{PageView}
 use Rattle.body_double.proofs.page_body.PageBodyBody.undo.Goals as goal
 use Rattle.body_double.proofs.PageLemmas.{undone-by, still-undone}

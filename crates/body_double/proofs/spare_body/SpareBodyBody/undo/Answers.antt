@@ -1,6 +1,5 @@
-use Rattle.std.proofs.Common.{rules, ◌≡◌, Some, None, Ok, Err, refl, sym, ap, subst, ◌∙◌}
+use Rattle.std.proofs.Common.{◌≡◌, Some, sym, ap, ◌∙◌}
 use Rattle.std.specs.Prelude.{option_map}
-use Rattle.eos_ops.specs.declared.outcome.Outcome.TheVariants.{Done}
 use Rattle.body_double.specs.Kind.{SpareView, OwnPage}
 use Rattle.body_double.proofs.spare_body.SpareBodyBody.undo.Goals as goal
 use Rattle.body_double.proofs.SpareLemmas.{undone-by}

@@ -1,72 +1,75 @@
--- The two spans that meet at the page are made one.
-use Rattle.std.proofs.Common.{◌≡◌, ℕ, ◌+◌, ◌<◌, List, length, sym, ap, subst, ◌∙◌, arith}
-use Rattle.std.specs.Prelude.{vec_capacity}
+-- The two spans that meet are one.
+use Rattle.std.proofs.Common.{◌≡◌, ℕ, ◌+◌, List, length, sym, ap, subst, ◌∙◌}
 use Rattle.std.proofs.lemmas.Bool.{false≢true}
-use Rattle.std.proofs.lemmas.List.{length-map}
-use Rattle.span_store.specs.Held.{Held, is_border, is_border_in, span_of, spans_of}
-use Rattle.span_store.specs.Order.{InOrder, IsBorder, with_join}
+use Rattle.span_store.specs.Held.{Held, HeldSpan, is_border, is_border_in}
+use Rattle.span_store.specs.Order.{InOrder}
+use Rattle.span_store.specs.Pieces.{IsBorderAt, rank_of, spans_in}
 use Rattle.span_store.specs.Calls.{IsJoined}
-use Rattle.span_store.proofs.Joins.{border_held, join_made, sized_joined}
+use Rattle.span_store.proofs.Joins.{border_held, sized_joined}
+use Rattle.span_store.proofs.Borders.{border_meets}
+use Rattle.span_store.proofs.Kept.{joined_in}
+use Rattle.span_store.proofs.holdings.Holdings.join_at.Given.{Over}
+use Rattle.span_store.proofs.holdings.Holdings.join_at.Goals.{After-join_in}
 use Rattle.span_store.proofs.holdings.Holdings.join_at.Goals as goal
 
--- what the join leaves
-made : {X : Type 0} (start : X → ℕ) (contents : X → List (List ℕ)) (items now slice : List X) (w : Held)
-    (i m n page : ℕ) → record { spans = spans_of start contents items; room = m } ≡ w →
-    InOrder 0 (spans_of start contents items)
-    → slice ≡ items → IsBorder (spans_of start contents slice) page i →
-    spans_of start contents now ≡ with_join (spans_of start contents items) i → n ≡ m
-    → InOrder 0 (spans_of start contents now) × IsJoined page w (record { spans = spans_of start contents now; room = n })
-made start contents items now slice w i m n page view order e met is same =
-    join_made (spans_of start contents items) (spans_of start contents now) w i m n page view order
-    (subst (λ (xs : List _). IsBorder (spans_of start contents xs) page i) e met) is same
+-- the border among the pieces of the holdings
+met : (seen ps : List (List HeldSpan)) (page i j k l : ℕ) → seen ≡ ps → IsBorderAt seen page i j k l → IsBorderAt ps page i j k l
+met seen ps page i j k l same found = subst (λ (qs : List (List HeldSpan)). IsBorderAt qs page i j k l) same found
+
+made : (g : Over) (c : After-join_in g) →
+    InOrder 0 (spans_in c.join_in.new.pieces.items) × IsJoined c.args.page c.args.self.now
+    (record { spans = spans_in c.join_in.new.pieces.items; room = length (spans_in c.join_in.new.pieces.items) + c.self.inside.free })
+made g c =
+    joined_in (spans_in c.self.inside.pieces.items) (spans_in c.join_in.new.pieces.items) c.args.self.now
+    (rank_of c.self.inside.pieces.items c.in-Some.border.front.piece c.in-Some.border.front.index) c.self.inside.free c.args.page
+    c.self.view_is c.self.invariant.order (met c.as_slice.result.now c.self.inside.pieces.items c.args.page c.in-Some.border.front.piece
+    c.in-Some.border.front.index c.in-Some.border.next.piece c.in-Some.border.next.index c.as_slice.ensures.value
+    c.in-Some.ensures.found).border c.join_in.ensures.spans
 
 pub returns-in_default-clause-joined : goal.returns-in_default-clause-joined
 returns-in_default-clause-joined g c = λ h.
-    let none = sym (ap (λ (xs : List _). is_border_in (spans_of g.S.Span.start g.S.Span.contents xs) c.args.page)
-    c.as_slice.ensures.value) ∙ c.in_default.ensures.none in
+    let none = sym (ap (λ (ps : List (List HeldSpan)). is_border_in (spans_in ps) c.args.page) c.as_slice.ensures.value)
+    ∙ c.in_default.ensures.none in
     absurd (false≢true (sym none ∙ (ap (λ (h : Held). is_border h c.args.page) c.self.view_is ∙ h)))
 
-pub join-requires-clause-within : goal.join-requires-clause-within
-join-requires-clause-within g c =
-    let ok = c.self.inside.spans.ok.0 in
-    let met = subst (λ (xs : List _). IsBorder (spans_of g.S.Span.start g.S.Span.contents xs) c.args.page
-    c.in-Some.index) c.as_slice.ensures.value c.in-Some.ensures.found in
-    omega (arith, met.within, length-map c.self.inside.spans.items (span_of g.S.Span.start g.S.Span.contents))
+pub join_in-requires-clause-next : goal.join_in-requires-clause-next
+join_in-requires-clause-next g c = (met c.as_slice.result.now c.self.inside.pieces.items c.args.page c.in-Some.border.front.piece
+    c.in-Some.border.front.index c.in-Some.border.next.piece c.in-Some.border.next.index c.as_slice.ensures.value
+    c.in-Some.ensures.found).next
 
-pub join-requires-clause-meets : goal.join-requires-clause-meets
-join-requires-clause-meets g c =
-    let met = subst (λ (xs : List _). IsBorder (spans_of g.S.Span.start g.S.Span.contents xs) c.args.page
-    c.in-Some.index) c.as_slice.ensures.value c.in-Some.ensures.found in
-    met.next ∙ sym met.end
+pub join_in-requires-clause-before : goal.join_in-requires-clause-before
+join_in-requires-clause-before g c = (met c.as_slice.result.now c.self.inside.pieces.items c.args.page c.in-Some.border.front.piece
+    c.in-Some.border.front.index c.in-Some.border.next.piece c.in-Some.border.next.index c.as_slice.ensures.value
+    c.in-Some.ensures.found).before
+
+pub join_in-requires-clause-meets : goal.join_in-requires-clause-meets
+join_in-requires-clause-meets g c =
+    border_meets c.self.inside.pieces.items c.args.page c.in-Some.border.front.piece c.in-Some.border.front.index
+    c.in-Some.border.next.piece c.in-Some.border.next.index (met c.as_slice.result.now c.self.inside.pieces.items c.args.page
+    c.in-Some.border.front.piece
+    c.in-Some.border.front.index c.in-Some.border.next.piece c.in-Some.border.next.index c.as_slice.ensures.value c.in-Some.ensures.found)
 
 pub invariant_of-self : goal.invariant_of-self
-invariant_of-self g c = (made g.S.Span.start g.S.Span.contents c.self.inside.spans.items c.join.new.spans.items
-    c.as_slice.result.now c.args.self.now c.in-Some.index (vec_capacity c.self.inside.spans)
-    (vec_capacity c.join.new.spans) c.args.page
-    c.self.view_is c.self.invariant c.as_slice.ensures.value c.in-Some.ensures.found c.join.ensures.joined c.join.ensures.room).0
+invariant_of-self g c = record {
+  order = (made g (goal.at.invariant_of-self g c).After-join_in).0;
+  row = c.join_in.ensures.row;
+  room = c.join_in.ensures.room c.self.inside.free c.self.invariant.room;
+}
 
 pub returns-clause-joined : goal.returns-clause-joined
-returns-clause-joined g c = λ _. (made g.S.Span.start g.S.Span.contents c.self.inside.spans.items
-    c.join.new.spans.items c.as_slice.result.now c.args.self.now c.in-Some.index (vec_capacity c.self.inside.spans)
-    (vec_capacity c.join.new.spans) c.args.page
-    c.self.view_is c.self.invariant c.as_slice.ensures.value c.in-Some.ensures.found c.join.ensures.joined c.join.ensures.room).1
+returns-clause-joined g c = λ _. (made g (goal.at.returns-clause-joined g c).After-join_in).1
 
 pub returns-clause-unchanged : goal.returns-clause-unchanged
 returns-clause-unchanged g c = λ no.
-    let met = subst (λ (xs : List _). IsBorder (spans_of g.S.Span.start g.S.Span.contents xs) c.args.page
-    c.in-Some.index) c.as_slice.ensures.value c.in-Some.ensures.found in
-    absurd (false≢true (sym no ∙ border_held (spans_of g.S.Span.start g.S.Span.contents c.self.inside.spans.items)
-    c.args.self.now c.in-Some.index (vec_capacity c.self.inside.spans) c.args.page c.self.view_is
-    c.self.invariant met))
+    absurd (false≢true (sym no ∙ border_held (spans_in c.self.inside.pieces.items) c.args.self.now
+    (rank_of c.self.inside.pieces.items c.in-Some.border.front.piece c.in-Some.border.front.index)
+    (length (spans_in c.self.inside.pieces.items) + c.self.inside.free) c.args.page c.self.view_is c.self.invariant.order
+    (met c.as_slice.result.now c.self.inside.pieces.items c.args.page c.in-Some.border.front.piece
+    c.in-Some.border.front.index c.in-Some.border.next.piece c.in-Some.border.next.index c.as_slice.ensures.value
+    c.in-Some.ensures.found).border))
 
 pub returns-clause-sized : goal.returns-clause-sized
 returns-clause-sized g c size all =
-    sized_joined g.S.Span.tells size c.args.page c.args.self.now (record {
-      spans =
-          spans_of g.S.Span.start g.S.Span.contents c.join.new.spans.items;
-      room = vec_capacity c.join.new.spans;
-    })
-    (made g.S.Span.start g.S.Span.contents c.self.inside.spans.items c.join.new.spans.items c.as_slice.result.now
-    c.args.self.now c.in-Some.index (vec_capacity c.self.inside.spans)
-    (vec_capacity c.join.new.spans) c.args.page
-    c.self.view_is c.self.invariant c.as_slice.ensures.value c.in-Some.ensures.found c.join.ensures.joined c.join.ensures.room).1 all
+    sized_joined g.S.Span.tells size c.args.page c.args.self.now
+    (record { spans = spans_in c.join_in.new.pieces.items; room = length (spans_in c.join_in.new.pieces.items) + c.self.inside.free })
+    (made g (goal.at.returns-clause-sized g c).After-join_in).1 all

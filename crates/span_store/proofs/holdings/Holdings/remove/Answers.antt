@@ -1,100 +1,58 @@
--- The span before the page's place begins there.
-use Rattle.std.proofs.Common.{◌≡◌, ℕ, suc, ◌<◌, ◌-◌, ◌++◌, true, List, length, take, drop, get_or, map, sym, ap, subst, ◌∙◌, arith}
-use Rattle.std.specs.Prelude.{vec_capacity}
-use Rattle.std.specs.List.{remove}
-use Rattle.std.proofs.lemmas.List.{map-append, take-map, drop-map, length-map}
-use Rattle.span_store.specs.Held.{Held, HeldSpan, begins, span_of, spans_of}
-use Rattle.span_store.specs.Order.{IsRank, InOrder, no_span}
+-- The last span that begins at the page or before it begins there.
+use Rattle.std.proofs.Common.{◌+◌, List, length, sym, ap, subst, ◌∙◌}
+use Rattle.span_store.specs.Held.{Held, HeldSpan, begins, span_of}
+use Rattle.span_store.specs.Order.{InOrder, IsRank}
+use Rattle.span_store.specs.Pieces.{IsLastBegun, rank_of, spans_in}
 use Rattle.span_store.specs.Calls.{IsRemoved}
-use Rattle.span_store.proofs.SpanLists.{span_at}
-use Rattle.span_store.proofs.Holds.{IsBegun, begun_at, remove_made, sized_removed}
+use Rattle.span_store.proofs.Holds.{sized_removed}
+use Rattle.span_store.proofs.InPieces.{at_within}
+use Rattle.span_store.proofs.Begun.{begun_first, none_begins}
+use Rattle.span_store.proofs.Kept.{removed_in}
+use Rattle.span_store.proofs.holdings.Holdings.remove.Given.{Over}
+use Rattle.span_store.proofs.holdings.Holdings.remove.Goals.{After-take_out}
 use Rattle.span_store.proofs.holdings.Holdings.remove.Goals as goal
 
--- the span before the place begins at the page
-begun : {X : Type 0} (start : X → ℕ) (contents : X → List (List ℕ)) (items slice : List X) (w : Held)
-    (first k m : ℕ) → record { spans = spans_of start contents items; room = m } ≡ w →
-    InOrder 0 (spans_of start contents items)
-    → slice ≡ items → IsRank (spans_of start contents slice) first k → begins w first ≡ true →
-    IsBegun (spans_of start contents items) first k
-begun start contents items slice w first k m view order e place begins_there =
-    begun_at (spans_of start contents items) first k order (subst (λ (xs : List _). IsRank (spans_of start contents xs) first k) e place)
-    (ap (λ (h : Held). begins h first) view ∙ begins_there)
+last : (g : Over) (c : After-take_out g) → IsLastBegun c.self.inside.pieces.items c.args.first c.in-Some.at.piece c.in-Some.at.index
+last g c =
+    subst (λ (ps : List (List HeldSpan)). IsLastBegun ps c.args.first c.in-Some.at.piece c.in-Some.at.index)
+    c.as_slice.ensures.value c.in-Some.ensures.found
 
-pub record IsMade {X : Type 0} (start : X → ℕ) (contents : X → List (List ℕ)) (now : List X) (w : Held) (x : X) (first n : ℕ) : Type 0 where
-  pub order : InOrder 0 (spans_of start contents now)
-  pub removed : IsRemoved (span_of start contents x) w (record { spans = spans_of start contents now; room = n })
-  pub begin : start x ≡ first
-
--- what a span taken out leaves
-made : {X : Type 0} (start : X → ℕ) (contents : X → List (List ℕ)) (items now slice : List X) (w : Held) (x : X)
-    (first k m n : ℕ) → record { spans = spans_of start contents items; room = m } ≡ w →
-    InOrder 0 (spans_of start contents items)
-    → slice ≡ items → IsRank (spans_of start contents slice) first k → begins w first ≡ true →
-    x ≡ get_or items (k - 1) x → now ≡ remove items (k - 1) → n ≡ m → IsMade start contents now w x first n
-made start contents items now slice w x first k m n view order e place begins_there read is same =
-    let f = span_of start contents in
-    let there = begun start contents items slice w first k m view order e place begins_there in
-    let within : k - 1 < length items = let long = length-map items f in let inside = there.within in omega arith in
-    let here : get_or (spans_of start contents items) (k - 1) no_span ≡ f x = span_at start contents items (k - 1) x within read in
-    let left : spans_of start contents now ≡ take (k - 1) (spans_of start contents items) ++ drop (suc (k - 1))
-    (spans_of start contents items) =
-    ap (map f) is ∙ map-append f (take (k - 1) items) (drop (suc (k - 1)) items)
-    ∙ ap (λ (xs : List HeldSpan). xs ++ map f (drop (suc (k - 1)) items)) (sym (take-map f (k - 1) items))
-    ∙ ap (λ (xs : List HeldSpan). take (k - 1) (map f items) ++ xs) (sym (drop-map f (suc (k - 1)) items)) in
-    let all = remove_made (spans_of start contents items) (spans_of start contents now) w (f x)
-    (k - 1) m view order there.within here left in
-    record {
-      order = all.0;
-      removed = subst (λ (r : ℕ). IsRemoved (f x) w (record { spans = spans_of start contents now; room = r })) (sym same) all.1;
-      begin = ap (λ (s : HeldSpan). s.first) (sym here) ∙ there.first;
-    }
-
-pub overflow_sub-index : goal.overflow_sub-index
-overflow_sub-index g c =
-    let there = begun g.S.Span.start g.S.Span.contents c.self.inside.spans.items c.as_slice.result.now
-    c.args.self.now c.args.first c.place_of-index.result (vec_capacity c.self.inside.spans) c.self.view_is
-    c.self.invariant c.as_slice.ensures.value c.place_of-index.ensures c.requires in
-    omega (arith, there.some)
-
-pub remove-requires : goal.remove-requires
-remove-requires g c =
-    let there = begun g.S.Span.start g.S.Span.contents c.self.inside.spans.items c.as_slice.result.now
-    c.args.self.now c.args.first c.place_of-index.result (vec_capacity c.self.inside.spans) c.self.view_is
-    c.self.invariant c.as_slice.ensures.value c.place_of-index.ensures c.requires in
-    let ok = c.self.inside.spans.ok.0 in
-    omega (arith, there.within, length-map c.self.inside.spans.items (span_of g.S.Span.start g.S.Span.contents))
+made : (g : Over) (c : After-take_out g) →
+    InOrder 0 (spans_in c.take_out.new.pieces.items)
+    × IsRemoved (span_of g.S.Span.start g.S.Span.contents c.take_out.result) c.args.self.now
+    (record { spans = spans_in c.take_out.new.pieces.items; room = length (spans_in c.take_out.new.pieces.items) + c.self.inside.free })
+made g c =
+    removed_in (spans_in c.self.inside.pieces.items) (spans_in c.take_out.new.pieces.items) c.args.self.now
+    (span_of g.S.Span.start g.S.Span.contents c.take_out.result)
+    (rank_of c.self.inside.pieces.items c.in-Some.at.piece c.in-Some.at.index) c.self.inside.free
+    c.self.view_is c.self.invariant.order
+    (at_within c.self.inside.pieces.items c.in-Some.at.piece c.in-Some.at.index (last g c).at)
+    (sym c.take_out.ensures.span) c.take_out.ensures.spans
 
 pub invariant_of-self : goal.invariant_of-self
-invariant_of-self g c = (made g.S.Span.start g.S.Span.contents c.self.inside.spans.items c.remove.new.self.items
-    c.as_slice.result.now c.args.self.now c.remove.result c.args.first c.place_of-index.result
-    (vec_capacity c.self.inside.spans) (vec_capacity c.remove.new.self)
-    c.self.view_is c.self.invariant c.as_slice.ensures.value c.place_of-index.ensures c.requires
-    c.remove.ensures.value c.remove.ensures.items c.remove.ensures.capacity).order
+invariant_of-self g c = record {
+  order = (made g (goal.at.invariant_of-self g c).After-take_out).0;
+  row = c.take_out.ensures.row;
+  room = c.take_out.ensures.room c.self.inside.free c.self.invariant.room;
+}
 
 pub returns-clause-first : goal.returns-clause-first
-returns-clause-first g c = (made g.S.Span.start g.S.Span.contents c.self.inside.spans.items c.remove.new.self.items
-    c.as_slice.result.now c.args.self.now c.remove.result c.args.first c.place_of-index.result
-    (vec_capacity c.self.inside.spans) (vec_capacity c.remove.new.self)
-    c.self.view_is c.self.invariant c.as_slice.ensures.value c.place_of-index.ensures c.requires
-    c.remove.ensures.value c.remove.ensures.items c.remove.ensures.capacity).begin
+returns-clause-first g c =
+    ap (λ (s : HeldSpan). s.first) c.take_out.ensures.span
+    ∙ begun_first c.self.inside.pieces.items c.args.first c.in-Some.at.piece c.in-Some.at.index c.self.invariant.order
+    (last g (goal.at.returns-clause-first g c).After-take_out) (ap (λ (h : Held). begins h c.args.first) c.self.view_is ∙ c.requires)
 
 pub returns-clause-removed : goal.returns-clause-removed
-returns-clause-removed g c = (made g.S.Span.start g.S.Span.contents c.self.inside.spans.items
-    c.remove.new.self.items c.as_slice.result.now c.args.self.now c.remove.result c.args.first
-    c.place_of-index.result (vec_capacity c.self.inside.spans) (vec_capacity c.remove.new.self)
-    c.self.view_is c.self.invariant c.as_slice.ensures.value c.place_of-index.ensures c.requires
-    c.remove.ensures.value c.remove.ensures.items c.remove.ensures.capacity).removed
+returns-clause-removed g c = (made g (goal.at.returns-clause-removed g c).After-take_out).1
 
 pub returns-clause-sized : goal.returns-clause-sized
 returns-clause-sized g c size all =
-    let made = made g.S.Span.start g.S.Span.contents c.self.inside.spans.items c.remove.new.self.items
-    c.as_slice.result.now c.args.self.now c.remove.result c.args.first c.place_of-index.result
-    (vec_capacity c.self.inside.spans) (vec_capacity c.remove.new.self)
-    c.self.view_is c.self.invariant c.as_slice.ensures.value c.place_of-index.ensures c.requires
-    c.remove.ensures.value c.remove.ensures.items c.remove.ensures.capacity in
-    sized_removed g.S.Span.tells size (span_of g.S.Span.start g.S.Span.contents c.remove.result) c.args.self.now
-    (record {
-      spans = spans_of g.S.Span.start g.S.Span.contents c.remove.new.self.items;
-      room =
-          vec_capacity c.remove.new.self;
-    }) made.removed all
+    sized_removed g.S.Span.tells size (span_of g.S.Span.start g.S.Span.contents c.take_out.result) c.args.self.now
+    (record { spans = spans_in c.take_out.new.pieces.items; room = length (spans_in c.take_out.new.pieces.items) + c.self.inside.free })
+    (made g (goal.at.returns-clause-sized g c).After-take_out).1 all
+
+pub unreachable-requires : goal.unreachable-requires
+unreachable-requires g c =
+    none_begins (spans_in c.self.inside.pieces.items) c.args.first c.self.invariant.order
+    (subst (λ (ps : List (List HeldSpan)). IsRank (spans_in ps) c.args.first 0) c.as_slice.ensures.value c.in_default.ensures.none)
+    (ap (λ (h : Held). begins h c.args.first) c.self.view_is ∙ c.requires)

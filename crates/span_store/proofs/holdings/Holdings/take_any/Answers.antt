@@ -1,112 +1,83 @@
--- The last span is taken out, where there is one.
-use Rattle.std.proofs.Common.{◌≡◌, ℕ, ◌++◌, ◌∷◌, [], List, length, map, Option, Some, None, refl, sym, ap, subst, ◌∙◌, arith, append-nil}
-use Rattle.std.specs.Prelude.{vec_capacity, vec_len, IfSome, IsNone, is_some, Bool, MatchOption, ◌+◌}
-use Rattle.std.specs.Option.{option_to_list}
-use Rattle.std.proofs.lemmas.Bool.{false≢true}
-use Rattle.std.proofs.lemmas.List.{map-append, nil_from_length}
-use Rattle.page_port.specs.Pages.{IsSized}
-use Rattle.span_store.specs.Held.{AllSized, Held, HeldSpan, IsEmpty, page_at, span_of, spans_of}
+-- The last span of the last piece is taken out.
+use Rattle.std.proofs.Common.{◌≡◌, ℕ, ◌+◌, ◌-◌, ◌<◌, ◌≤◌, Bool, false, length, sym, ap, ◌∙◌, inl, inr, arith}
+use Rattle.std.specs.Prelude.{◌==◌, vec_len}
+use Rattle.std.proofs.lemmas.Bool.{cases_lt, eq-eqb, false≢true}
+use Rattle.span_store.specs.Held.{Held, span_of}
 use Rattle.span_store.specs.Order.{InOrder}
+use Rattle.span_store.specs.Pieces.{IsAt, piece_at, rank_of, spans_in}
 use Rattle.span_store.specs.Calls.{IsRemoved}
-use Rattle.span_store.proofs.SpanLists.{page_of-inside}
-use Rattle.span_store.proofs.Holds.{removed_between, removed_order, sized_removed}
+use Rattle.span_store.proofs.Holds.{sized_removed}
+use Rattle.span_store.proofs.InPieces.{at_within, filled_at}
+use Rattle.span_store.proofs.Kept.{not_empty, piece_read, removed_in}
+use Rattle.span_store.proofs.holdings.Holdings.take_any.Given.{Over}
+use Rattle.span_store.proofs.holdings.Holdings.take_any.Goals.{After-len-index, After-take_out}
 use Rattle.span_store.proofs.holdings.Holdings.take_any.Goals as goal
 
--- what is left where some span may have been taken off the end
-pub record IsLeft {X : Type 0} (start : X → ℕ) (contents : X → List (List ℕ)) (now : List X) (o : Option X)
-    (w : Held) (n : ℕ) : Type 0 where
-  pub order : InOrder 0 (spans_of start contents now)
-  pub removed : IfSome o (λ x. IsRemoved (span_of start contents x) w (record { spans = spans_of start contents now; room = n }))
-  pub none : IsNone o → IsEmpty w
-  pub empty : IsEmpty w → IsNone o
+-- there is a piece
+some_pieces : (n : ℕ) (b : Bool) → b ≡ (n == 0) → b ≡ false → 0 < n
+some_pieces n b e other = elim (cases_lt 0 n) [
+  | inl some ↦ some
+  | inr none ↦ absurd (false≢true (sym other ∙ (e ∙ eq-eqb n 0 (omega (arith, none)))))
+]
 
-left : {X : Type 0} (start : X → ℕ) (contents : X → List (List ℕ)) (items now : List X) (o : Option X) (w : Held)
-    (m n : ℕ) → record { spans = spans_of start contents items; room = m } ≡ w →
-    InOrder 0 (spans_of start contents items)
-    → items ≡ now ++ option_to_list o → n ≡ m → (IsNone o → length now ≡ 0) → IsLeft start contents now o w n
-left start contents items now None w m n view order e same empty =
-    let all : items ≡ now = e ∙ append-nil now in
-    record {
-      order = subst (λ (xs : List _). InOrder 0 (spans_of start contents xs)) all order;
-      removed = tt;
-      none = λ none q. sym (ap (λ (h : Held). page_at h q) view)
-          ∙ ap (λ (xs : List _). page_at (record { spans = spans_of start contents xs; room = m }) q)
-          (all ∙ nil_from_length now (empty none));
-      empty = λ h. refl;
-    }
-left start contents items now (Some x) w m n view order e same empty =
-    let f = span_of start contents in
-    let xs = spans_of start contents now in
-    let split : spans_of start contents items ≡ xs ++ (f x ∷ []) = ap (map f) e ∙ map-append f now (x ∷ []) in
-    let whole : InOrder 0 (xs ++ (f x ∷ [])) = subst (InOrder 0) split order in
-    let old : record { spans = xs ++ (f x ∷ []); room = m } ≡ w =
-    ap (λ (rows : List HeldSpan). record { spans = rows; room = m }) (sym split) ∙ view in
-    let out : IsRemoved (f x) w (record { spans = xs; room = n }) =
-    subst (λ (h : Held). IsRemoved (f x) h (record { spans = xs; room = n })) old
-    (subst (λ (r : ℕ). IsRemoved (f x) (record { spans = xs ++ (f x ∷ []); room = m }) (record { spans = xs; room = r })) (sym same)
-    (subst (λ (rows : List HeldSpan). IsRemoved (f x) (record { spans = xs ++ (f x ∷ []); room = m })
-    (record { spans = rows; room = m })) (append-nil xs) (removed_between xs [] (f x) m whole))) in
-    record {
-      order = subst (InOrder 0) (append-nil xs) (removed_order xs [] (f x) whole);
-      removed = out;
-      none = λ none. absurd (false≢true (sym none));
-      empty = λ nothing.
-          let some = out.some in
-          let here = page_of-inside (f x) (start x) (omega arith) (omega arith) in
-          let held = out.held (start x) (ap is_some here) ∙ here in
-          absurd (false≢true (ap is_some (sym (nothing (start x)) ∙ held)));
-    }
+-- the last piece has a span
+last : (g : Over) (c : After-len-index g) →
+    (1 ≤ c.len-index.result) × IsAt c.self.inside.pieces.items (c.len-piece.result - 1) (c.len-index.result - 1)
+last g c =
+    let ps = c.self.inside.pieces.items in
+    let ok = c.self.inside.pieces.ok.0 in
+    let some = some_pieces (vec_len c.self.inside.pieces) c.is_empty.result c.is_empty.ensures c.if-is_empty.false in
+    let within : c.len-piece.result - 1 < length ps = omega (arith, ok, some, c.len-piece.ensures) in
+    let here = piece_read ps (c.len-piece.result - 1) c.index.result.now within c.index.ensures in
+    let least = (filled_at ps (c.len-piece.result - 1) c.self.invariant.row.filled within).0 in
+    let long : c.len-index.result ≡ length (piece_at ps (c.len-piece.result - 1)) = c.len-index.ensures ∙ ap length here in
+    (omega (arith, least, long), record { within = within; inner = omega (arith, least, long) })
 
-sized : {X : Type 0} (start : X → ℕ) (contents : X → List (List ℕ)) (told : Bool) (o : Option X) (old new : Held) →
-    IfSome o (λ x. IsRemoved (span_of start contents x) old new)
-    → IfSome o (λ x. (size : ℕ) → AllSized told size old → IsSized told size (contents x) × AllSized told size new)
-sized start contents told None old new h = h
-sized start contents told (Some x) old new h = λ size all. sized_removed told size (span_of start contents x) old new h all
+-- what is left
+abbrev left : (g : Over) (c : After-take_out g) → Held
+left g c =
+    record { spans = spans_in c.take_out.new.pieces.items; room = length (spans_in c.take_out.new.pieces.items) + c.self.inside.free }
 
--- nothing is left where nothing was taken out
-none_left : {X : Type 0} (o : Option X) (before now : ℕ) →
-    MatchOption o ((before ≡ 0) × (now ≡ 0)) (λ x. now + 1 ≡ before) → IsNone o → now ≡ 0
-none_left None before now h none = h.1
-none_left (Some x) before now h none = absurd (false≢true (sym none))
+made : (g : Over) (c : After-take_out g) → IsAt c.self.inside.pieces.items (c.len-piece.result - 1) (c.len-index.result - 1) →
+    InOrder 0 (spans_in c.take_out.new.pieces.items)
+    × IsRemoved (span_of g.S.Span.start g.S.Span.contents c.take_out.result) c.args.self.now (left g c)
+made g c at =
+    removed_in (spans_in c.self.inside.pieces.items) (spans_in c.take_out.new.pieces.items) c.args.self.now
+    (span_of g.S.Span.start g.S.Span.contents c.take_out.result)
+    (rank_of c.self.inside.pieces.items (c.len-piece.result - 1) (c.len-index.result - 1)) c.self.inside.free c.self.view_is
+    c.self.invariant.order (at_within c.self.inside.pieces.items (c.len-piece.result - 1) (c.len-index.result - 1) at)
+    (sym c.take_out.ensures.span) c.take_out.ensures.spans
+
+pub overflow_sub-index : goal.overflow_sub-index
+overflow_sub-index g c = (last g (goal.at.overflow_sub-index g c).After-len-index).0
+
+pub take_out-requires-clause-at : goal.take_out-requires-clause-at
+take_out-requires-clause-at g c = (last g (goal.at.take_out-requires-clause-at g c).After-len-index).1
 
 pub invariant_of-self : goal.invariant_of-self
 invariant_of-self g c =
-    let ok = c.pop.new.self.ok.0 in
-    (left g.S.Span.start g.S.Span.contents c.self.inside.spans.items c.pop.new.self.items c.pop.result
-    c.args.self.now (vec_capacity c.self.inside.spans)
-    (vec_capacity c.pop.new.self) c.self.view_is c.self.invariant c.pop.ensures.items c.pop.ensures.capacity
-    (λ none. sym ok ∙ none_left c.pop.result (vec_len c.self.inside.spans)
-    (vec_len c.pop.new.self) c.pop.ensures.cases none)).order
+    let at = goal.at.invariant_of-self g c in
+    record {
+      order = (made g at.After-take_out (last g at.After-len-index).1).0;
+      row = c.take_out.ensures.row;
+      room = c.take_out.ensures.room c.self.inside.free c.self.invariant.room;
+    }
 
 pub returns-clause-removed : goal.returns-clause-removed
 returns-clause-removed g c =
-    let ok = c.pop.new.self.ok.0 in
-    (left g.S.Span.start g.S.Span.contents c.self.inside.spans.items c.pop.new.self.items c.pop.result
-    c.args.self.now (vec_capacity c.self.inside.spans)
-    (vec_capacity c.pop.new.self) c.self.view_is c.self.invariant c.pop.ensures.items c.pop.ensures.capacity
-    (λ none. sym ok ∙ none_left c.pop.result (vec_len c.self.inside.spans)
-    (vec_len c.pop.new.self) c.pop.ensures.cases none)).removed
+    let at = goal.at.returns-clause-removed g c in
+    (made g at.After-take_out (last g at.After-len-index).1).1
 
 pub returns-clause-sized : goal.returns-clause-sized
-returns-clause-sized g c =
-    let ok = c.pop.new.self.ok.0 in
-    sized g.S.Span.start g.S.Span.contents g.S.Span.tells c.pop.result c.args.self.now (record {
-      spans =
-          spans_of g.S.Span.start g.S.Span.contents c.pop.new.self.items;
-      room = vec_capacity c.pop.new.self;
-    })
-    (left g.S.Span.start g.S.Span.contents c.self.inside.spans.items c.pop.new.self.items c.pop.result
-    c.args.self.now (vec_capacity c.self.inside.spans)
-    (vec_capacity c.pop.new.self) c.self.view_is c.self.invariant c.pop.ensures.items c.pop.ensures.capacity
-    (λ none. sym ok ∙ none_left c.pop.result (vec_len c.self.inside.spans)
-    (vec_len c.pop.new.self) c.pop.ensures.cases none)).removed
+returns-clause-sized g c size all =
+    let at = goal.at.returns-clause-sized g c in
+    sized_removed g.S.Span.tells size (span_of g.S.Span.start g.S.Span.contents c.take_out.result) c.args.self.now
+    (left g at.After-take_out) (made g at.After-take_out (last g at.After-len-index).1).1 all
 
 pub returns-clause-none : goal.returns-clause-none
 returns-clause-none g c =
-    let ok = c.pop.new.self.ok.0 in
-    let all = left g.S.Span.start g.S.Span.contents c.self.inside.spans.items c.pop.new.self.items c.pop.result
-    c.args.self.now (vec_capacity c.self.inside.spans)
-    (vec_capacity c.pop.new.self) c.self.view_is c.self.invariant c.pop.ensures.items c.pop.ensures.capacity
-    (λ none. sym ok ∙ none_left c.pop.result (vec_len c.self.inside.spans)
-    (vec_len c.pop.new.self) c.pop.ensures.cases none) in
-    (all.none, all.empty)
+    let at = goal.at.returns-clause-none g c in (
+      λ e. absurd (false≢true (sym e)),
+      λ nothing. absurd (not_empty c.args.self.now (left g at.After-take_out)
+          (span_of g.S.Span.start g.S.Span.contents c.take_out.result) (made g at.After-take_out (last g at.After-len-index).1).1 nothing),
+    )

@@ -1,0 +1,17 @@
+pub mod SizeLemmas
+pub mod SiteLemmas
+pub mod FillLemmas
+pub mod ShapeLemmas
+pub mod NodeCountLemmas
+pub mod NodeLemmas
+pub mod PieceLemmas
+pub mod PartLemmas
+pub mod NeighbourLemmas
+pub mod GotLemmas
+pub mod SegmentLemmas
+pub mod AppendLemmas
+pub mod LayingLemmas
+pub mod UsedNodeLemmas
+pub mod UsedLemmas
+pub mod PlannedLemmas
+pub mod ChangeLemmas

@@ -1,0 +1,189 @@
+-- The runs that the parts of a plan are granted: how many halving added, and how many pages they have.
+use Rattle.std.proofs.Common.{◌≡◌, ℕ, suc, ◌+◌, ◌-◌, ◌*◌, ◌≤◌, Bool, Some, None, List, [], ◌∷◌}
+use Rattle.std.proofs.Common.{◌++◌, length, map, refl, ap, subst, arith, ◌∙◌, inl, inr, length-append, nat_eq, sum_by}
+use Rattle.std.specs.Prelude.{if◌then◌else◌}
+use Rattle.std.proofs.lemmas.Bool.{cases_Bool, eqb-true}
+use Rattle.std.proofs.lemmas.List.Sums.{sum_by-cons}
+use Rattle.std.proofs.Math.Nat.{add-mul, mul-le-mul_right}
+use Rattle.geometry_model.specs.Numbers.{Numbers}
+use Rattle.tree_model.specs.Tree.{page_count}
+use Rattle.layout_model.specs.declared.extent.Extent.{Extent}
+use Rattle.layout_model.specs.declared.part.Part.{Part}
+use Rattle.layout_model.specs.declared.part.Part.TheVariants.{Keep, Make}
+use Rattle.layout_model.specs.declared.request.Request.{Request}
+use Rattle.layout_model.specs.Grants.{Spaces, and_then, all_runs, part_runs}
+use Rattle.layout_model.specs.Grants.Answer.{Got}
+use Rattle.layout_model.specs.Layout.{requests, segments_on, laid_parts, left_over, spare_behind}
+use Rattle.layout_model.specs.Plan.{ask_of, extent, extent_pages}
+use Rattle.layout_laws.specs.Halving.{runs_pages, AreLong}
+use Rattle.moment_laws.specs.Granting.{page_run, runs_of_parts}
+use Rattle.change_laws.proofs.GotLemmas.{HoldsPart, and_then-got, exact-got, part-got, want-enough}
+
+-- the runs of a part beyond its first
+abbrev pub added : List Extent → ℕ
+added runs = length runs - 1
+
+-- ---- lists of runs
+
+pub pages-append : (xs ys : List Extent) → runs_pages (xs ++ ys) ≡ runs_pages xs + runs_pages ys
+pages-append [] ys = omega arith
+pages-append (x ∷ xs) ys = let more = pages-append xs ys in omega (arith, more)
+
+pub pages-single : (pages : List ℕ) → runs_pages (map page_run pages) ≡ length pages
+pages-single [] = refl
+pages-single (page ∷ pages) = let more = pages-single pages in omega (arith, more)
+
+pub pages-of_parts : (run : List Extent) (runs : List (List Extent)) →
+    runs_pages (runs_of_parts (run ∷ runs)) ≡ runs_pages run + runs_pages (runs_of_parts runs)
+pages-of_parts run runs = pages-append run (runs_of_parts runs)
+
+-- ---- entries on runs
+
+segments-count : (size bytes : ℕ) (runs : List Extent) → length (segments_on size bytes runs) ≡ length runs
+segments-count size bytes [] = refl
+segments-count size bytes (run ∷ rest) = ap suc (segments-count size (bytes - run.pages * size) rest)
+
+-- parts have an entry each, and one for each piece that was added
+pub laid-few : (size : ℕ) (parts : List Part) (runs : List (List Extent)) →
+    length (laid_parts size parts runs) ≤ length parts + sum_by added runs
+laid-few size [] runs = omega arith
+laid-few size (Keep p ∷ rest) runs = let more = laid-few size rest runs in omega (arith, more)
+laid-few size (Make bytes ∷ rest) [] = let more = laid-few size rest [] in omega (arith, more)
+laid-few size (Make bytes ∷ rest) (run ∷ runs) =
+    let more = laid-few size rest runs in
+    let all = sum_by-cons added run runs in
+    let both = length-append (segments_on size bytes run) (laid_parts size rest runs) in
+    let here = segments-count size bytes run in
+    omega (arith, more, all, both, here)
+
+-- ---- one part
+
+long-pages : (least : ℕ) (runs : List Extent) → AreLong least runs → length runs * least ≤ runs_pages runs
+long-pages least [] long = omega arith
+long-pages least (run ∷ rest) long =
+    let more = long-pages least rest long.1 in
+    let first = long.0 in
+    let rows : suc (length rest) * least ≡ least + length rest * least = grind arith in
+    omega (arith, more, first, rows)
+
+-- each added piece has the threshold's pages
+part-added : (size least bytes : ℕ) (runs : List Extent) → HoldsPart size least bytes runs → added runs * least ≤ page_count size bytes
+part-added size least bytes runs (inl single) =
+    let one : added runs ≡ 0 = ap added single.1 in
+    let none : added runs * least ≡ 0 * least = ap (λ (k : ℕ). k * least) one in
+    omega (arith, none)
+part-added size least bytes runs (inr halves) =
+    let all = long-pages least runs halves.1.long in
+    let together = halves.1.together in
+    let fewer : added runs * least ≤ length runs * least = mul-le-mul_right least (omega arith) in
+    omega (arith, all, together, fewer)
+
+extent-pages : (page pages : ℕ) → extent_pages (extent page pages) ≡ pages
+extent-pages page pages =
+    elim (cases_Bool (nat_eq pages 0)) [
+      | inl none ↦
+          let nothing = eqb-true pages 0 none in
+          let step : extent page pages ≡ None = rw (none, extent) in
+          let count = ap extent_pages step in
+          omega (arith, nothing, count)
+      | inr some ↦
+          let step : extent page pages ≡ Some (record { page = page; pages = pages }) = rw (some, extent) in
+          ap extent_pages step
+    ]
+
+-- a run has the pages that are needed and those that are left over
+part-left : (size least bytes : ℕ) (runs : List Extent) → HoldsPart size least bytes runs →
+    runs_pages runs ≤ page_count size bytes + extent_pages (left_over (page_count size bytes) runs)
+part-left size least bytes runs (inr halves) = let together = halves.1.together in omega (arith, together)
+part-left size least bytes runs (inl single) =
+    let need = page_count size bytes in
+    let run = single.0 in
+    let enough = single.2 in
+    let all : runs_pages runs ≡ run.pages + 0 = ap runs_pages single.1 in
+    let left : extent_pages (left_over need runs) ≡ extent_pages (extent (run.page + need) (run.pages - need)) =
+    ap (λ rs. extent_pages (left_over need rs)) single.1 in
+    let rest = extent-pages (run.page + need) (run.pages - need) in
+    omega (arith, all, left, rest, enough)
+
+-- ---- all parts
+
+-- the runs of parts of these bytes: each added piece has the threshold's pages, and there are no more pages than are needed
+-- and set aside
+pub record AreShared (size least : ℕ) (appends : Bool) (ns : List ℕ) (runs : List (List Extent)) : Type 0 where
+  pub few : sum_by added runs * least ≤ sum_by (page_count size) ns
+  pub pages : runs_pages (runs_of_parts runs)
+      ≤ sum_by (page_count size) ns + extent_pages (if appends then spare_behind size ns runs else None)
+
+got_all : (x y : List (List Extent)) (left rest : Spaces) → Got x left ≡ Got y rest → x ≡ y
+got_all x y left rest same = cc
+
+shared-last : (n : Numbers) (start least : ℕ) (appends : Bool) (last limit bytes : ℕ) (spaces left : Spaces) (runs : List Extent) →
+    part_runs n start least (record {
+      want = if appends then ask_of (page_count n.page bytes) last limit else page_count n.page bytes;
+      need = page_count n.page bytes;
+    }) spaces ≡ Got runs left → AreShared n.page least appends (bytes ∷ []) (runs ∷ [])
+shared-last n start least appends last limit bytes spaces left runs got =
+    let size = n.page in
+    let need = page_count size bytes in
+    let want = if appends then ask_of need last limit else need in
+    let holds = part-got n start least want bytes spaces left runs (want-enough appends need last limit) got in
+    let one = sum_by-cons (page_count size) bytes [] in
+    let two = sum_by-cons added runs [] in
+    let alone : sum_by added (runs ∷ []) ≡ added runs = omega (arith, two) in
+    let rows : sum_by added (runs ∷ []) * least ≡ added runs * least = ap (λ (k : ℕ). k * least) alone in
+    let single = pages-of_parts runs [] in
+    let few = part-added size least bytes runs holds in
+    record {
+      few = omega (arith, one, rows, few);
+      pages = elim (cases_Bool appends) [
+        | inl append ↦
+            let left_pages = part-left size least bytes runs holds in
+            let is : extent_pages (if appends then spare_behind size (bytes ∷ []) (runs ∷ []) else None)
+            ≡ extent_pages (left_over need runs) =
+            ap (λ (b : Bool). extent_pages (if b then spare_behind size (bytes ∷ []) (runs ∷ []) else None)) append in
+            omega (arith, one, single, left_pages, is)
+        | inr other ↦
+            let exact = exact-got n start least bytes spaces left runs (subst (λ (b : Bool). part_runs n start least
+            (record { want = if b then ask_of need last limit else need; need = need }) spaces ≡ Got runs left) other got) in
+            omega (arith, one, single, exact)
+      ];
+    }
+
+pub all-shared : (n : Numbers) (start least : ℕ) (appends : Bool) (last limit : ℕ) (ns : List ℕ) (spaces left : Spaces)
+    (runs : List (List Extent)) →
+    all_runs n start least (requests appends last limit (map (page_count n.page) ns)) spaces ≡ Got runs left →
+    AreShared n.page least appends ns runs
+all-shared n start least appends last limit [] spaces left runs got =
+    subst (AreShared n.page least appends []) (got_all [] runs spaces left got) (record { few = omega arith; pages = omega arith })
+all-shared n start least appends last limit (bytes ∷ []) spaces left runs got =
+    let need = page_count n.page bytes in
+    let request : Request = record { want = if appends then ask_of need last limit else need; need = need } in
+    let first = and_then-got (part_runs n start least request spaces)
+    (λ one mid. and_then (all_runs n start least [] mid) (λ more rest. Got (one ∷ more) rest)) runs left got in
+    let same : Got (first.0 ∷ []) first.1 ≡ Got runs left = first.3 in
+    subst (AreShared n.page least appends (bytes ∷ [])) (got_all (first.0 ∷ []) runs first.1 left same)
+    (shared-last n start least appends last limit bytes spaces first.1 first.0 first.2)
+all-shared n start least appends last limit (bytes ∷ next ∷ ns) spaces left runs got =
+    let size = n.page in
+    let need = page_count size bytes in
+    let request : Request = record { want = need; need = need } in
+    let others = requests appends last limit (map (page_count size) (next ∷ ns)) in
+    let first = and_then-got (part_runs n start least request spaces)
+    (λ one mid. and_then (all_runs n start least others mid) (λ more rest. Got (one ∷ more) rest)) runs left got in
+    let second = and_then-got (all_runs n start least others first.1) (λ more rest. Got (first.0 ∷ more) rest) runs left first.3 in
+    let shape : first.0 ∷ second.0 ≡ runs = got_all (first.0 ∷ second.0) runs second.1 left second.3 in
+    let rest = all-shared n start least appends last limit (next ∷ ns) first.1 second.1 second.0 second.2 in
+    let exact = exact-got n start least bytes spaces first.1 first.0 first.2 in
+    let few = part-added size least bytes first.0 (part-got n start least need bytes spaces first.1 first.0 (omega arith) first.2) in
+    let one = sum_by-cons (page_count size) bytes (next ∷ ns) in
+    let two = sum_by-cons added first.0 second.0 in
+    let rows : sum_by added (first.0 ∷ second.0) * least ≡ added first.0 * least + sum_by added second.0 * least =
+    ap (λ (k : ℕ). k * least) two ∙ add-mul (added first.0) (sum_by added second.0) least in
+    let both = pages-of_parts first.0 second.0 in
+    let less = rest.few in
+    let pages = rest.pages in
+    let behind : (if appends then spare_behind size (bytes ∷ next ∷ ns) (first.0 ∷ second.0) else None)
+    ≡ (if appends then spare_behind size (next ∷ ns) second.0 else None) = refl in
+    let set_aside = ap extent_pages behind in
+    subst (AreShared size least appends (bytes ∷ next ∷ ns)) shape
+    (record { few = omega (arith, one, rows, few, less); pages = omega (arith, one, both, exact, pages, set_aside) })

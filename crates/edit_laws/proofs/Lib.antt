@@ -1,9 +1,0 @@
-pub mod ShapeLemmas
-pub mod NodeLemmas
-pub mod PartLemmas
-pub mod NeighbourLemmas
-pub mod RunLemmas
-pub mod AppendLemmas
-pub mod LayingLemmas
-pub mod UsedLemmas
-pub mod EditLemmas

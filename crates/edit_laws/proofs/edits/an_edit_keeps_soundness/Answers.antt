@@ -1,5 +1,0 @@
-use Rattle.edit_laws.proofs.edits.an_edit_keeps_soundness.Goals as goal
-use Rattle.edit_laws.proofs.EditLemmas.{edited-sound}
-
-pub returns : goal.returns
-returns c = edited-sound

@@ -1,5 +1,0 @@
-use Rattle.edit_laws.proofs.edits.free_pages_after_a_laid_change.Goals as goal
-use Rattle.edit_laws.proofs.EditLemmas.{free-after_change}
-
-pub returns : goal.returns
-returns c = free-after_change

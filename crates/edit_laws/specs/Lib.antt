@@ -1,3 +1,0 @@
-pub mod Tail
-pub mod Laying
-pub mod Keeping

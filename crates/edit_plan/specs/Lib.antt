@@ -1,0 +1,3 @@
+pub mod Cuts
+pub mod Spots
+pub mod Planned

@@ -1,0 +1,3 @@
+pub mod StayLemmas
+pub mod LaidContentLemmas
+mod Worked

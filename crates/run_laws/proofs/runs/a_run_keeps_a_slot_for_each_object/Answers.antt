@@ -1,5 +1,0 @@
-use Rattle.run_laws.proofs.runs.a_run_keeps_a_slot_for_each_object.Goals as goal
-use Rattle.run_laws.proofs.RunLemmas.{run-slots}
-
-pub returns : goal.returns
-returns g c = run-slots g.K.Kind.laid

@@ -1,5 +1,0 @@
-use Rattle.run_laws.proofs.runs.a_run_keeps_soundness.Goals as goal
-use Rattle.run_laws.proofs.RunLemmas.{run-sound}
-
-pub returns : goal.returns
-returns g c = run-sound g.K.Kind.laid g.K.Kind.good
