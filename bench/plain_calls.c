@@ -1,6 +1,6 @@
 /* The plain program that bench/calls.py compares with: the calls of crates/bench_space by hand.
  *
- *   plain_calls grants PAGES ROUNDS    a bitmap of 16,384 pages, scanned block by block
+ *   plain_calls grants PAGES ROUNDS    a tree of masks over 16,384 pages
  *   plain_calls writes PAGES ROUNDS    pwrite to bench_space.img in this folder
  */
 #include <fcntl.h>
@@ -10,47 +10,52 @@
 #include <string.h>
 #include <unistd.h>
 
-enum { PAGE = 4096, PAGES = 16384, FIRST = 3 };
+enum { PAGE = 4096, ORDER = 14, PAGES = 1 << ORDER, FIRST = 3 };
 
-static uint8_t is_free[PAGES];
+/* Bit i of a mask: a maximal block of order i lies inside. The whole space is node 1, the halves of node i are
+ * 2 i and 2 i + 1, and page p is node PAGES + p. */
+static uint16_t masks[2 * PAGES];
 
-static int is_free_run(uint32_t first, uint32_t count) {
-    for (uint32_t i = 0; i < count; i++)
-        if (!is_free[first + i])
-            return 0;
-    return 1;
+static uint16_t joined(uint16_t left, uint16_t right, unsigned order) {
+    uint16_t whole = (uint16_t)(1 << (order - 1));
+    return left == whole && right == whole ? (uint16_t)(1 << order) : (uint16_t)(left | right);
+}
+
+/* Makes a run free or used, and mends the masks of the halves that have some of its pages. */
+static void set_run(uint32_t first, uint32_t count, int is_free) {
+    uint32_t low = PAGES + first, high = low + count - 1;
+    for (uint32_t i = low; i <= high; i++)
+        masks[i] = (uint16_t)is_free;
+    for (unsigned order = 1; low > 1; order++) {
+        low /= 2;
+        high /= 2;
+        for (uint32_t i = low; i <= high; i++)
+            masks[i] = joined(masks[2 * i], masks[2 * i + 1], order);
+    }
 }
 
 /* The first page of the lowest of the smallest maximal blocks that hold n pages, or PAGES. */
 static uint32_t place(uint32_t n) {
-    uint32_t best = PAGES, best_size = 2 * PAGES, at = 0;
-    while (at < PAGES) {
-        uint32_t size = 1;
-        if (!is_free[at]) {
-            at++;
-            continue;
-        }
-        while (at % (2 * size) == 0 && at + 2 * size <= PAGES && is_free_run(at + size, size))
-            size *= 2;
-        if (n <= size && size < best_size) {
-            best = at;
-            best_size = size;
-        }
-        at += size;
-    }
-    return best;
+    unsigned least = 0;
+    while ((1u << least) < n || !(masks[1] >> least & 1))
+        if (++least > ORDER)
+            return PAGES;
+    uint32_t node = 1;
+    for (unsigned order = ORDER; order > least; order--)
+        node = 2 * node + !(masks[2 * node] >> least & 1);
+    return (node << least) - PAGES;
 }
 
 static void grants(uint32_t n, uint32_t rounds) {
-    memset(is_free, 1, PAGES);
+    set_run(0, PAGES, 1);
     for (uint32_t i = 0; i < 512; i++)
-        memset(is_free + 16 * i + 8, 0, 8);
+        set_run(16 * i + 8, 8, 0);
     for (uint32_t i = 0; i < rounds; i++) {
         uint32_t at = place(n);
         if (at == PAGES)
             return;
-        memset(is_free + at, 0, n);
-        memset(is_free + at, 1, n);
+        set_run(at, n, 0);
+        set_run(at, n, 1);
     }
 }
 
@@ -80,7 +85,7 @@ int main(int count, char **words) {
         return 2;
     if (!strcmp(words[1], "grants")) {
         grants(n, rounds);
-        return is_free[0] ? 0 : 1;
+        return masks[1] ? 0 : 1;
     }
     return writes(n, rounds);
 }

@@ -174,3 +174,14 @@ gone-more Step held rest h old now next gone step = record {
 pub gone-all : {T : Type 0} (Step : T → Standing → Standing → Type 0) (held : List (Held T)) (old now : Standing)
     → HaveGone Step held [] old now → EndInTurn Step held old now
 gone-all Step held old now gone = subst (λ hs. EndInTurn Step hs old now) (sym gone.whole) gone.steps
+
+-- an end leaves the frame of the spaces
+pub turns-keep : {T : Type 0} (Step : T → Standing → Standing → Type 0) (held : List (Held T)) (before after : Standing)
+    → ((x : T) (old new : Standing) → Step x old new → KeepsFrame old.rest new.rest) → before.rest.entered ≡ None
+    → EndInTurn Step held before after → KeepsFrame before.rest after.rest
+turns-keep Step [] before after each none turns =
+    record { frame = ap (λ s. s.rest.frame) turns; entered = ap (λ s. s.rest.entered) turns ∙ none }
+turns-keep Step (h ∷ held) before after each none turns =
+    let earlier = turns-keep Step held before turns.0 each none turns.1 in
+    let last = each h.object turns.0 after turns.2 in
+    record { frame = last.frame ∙ earlier.frame; entered = last.entered }

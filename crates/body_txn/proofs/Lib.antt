@@ -1,7 +1,7 @@
 pub mod ActLemmas
 pub mod EndingLemmas
-pub mod LettingGoLemmas
-pub mod NotedLemmas
-pub mod PlaceLemmas
+mod LettingGoLemmas
+mod NotedLemmas
+mod PlaceLemmas
 pub mod ServingLemmas
 mod TakingLemmas

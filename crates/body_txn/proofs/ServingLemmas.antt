@@ -9,6 +9,7 @@ use Rattle.eos_ops.specs.declared.plain.Plain.{Plain}
 use Rattle.eos_ops.specs.declared.plain.Plain.TheVariants.{Absent}
 use Rattle.eos_ops.specs.Ends.{last_stamp_of}
 use Rattle.history.specs.Annals.{IsLegal}
+use Rattle.geometry_model.specs.Numbers.{Numbers}
 use Rattle.object_body.specs.declared.object.Object.{Object}
 use Rattle.object_body.specs.Form.{Form, Contents, listed}
 use Rattle.object_locks.specs.Shelving.{Shelving, Terms, Log, Suits, with_take, last_told}
@@ -175,6 +176,17 @@ agree-push frame legal terms h held suits fits = λ q x found.
     (λ (new : (held_object q held ≡ None) × (h.number ≡ q) × (h.object ≡ x)).
     subst (λ n. Suits frame legal terms n x) new.1 (subst (Suits frame legal terms h.number) new.2 suits))
     (held_object-push q held h x (held_object q held) refl found)
+
+-- numbers that are listed alike are the same
+pub listed-one : (m n : Numbers) → listed m ≡ listed n → m ≡ n
+listed-one m n same =
+    let page : m.page ≡ n.page = cc in
+    let order : m.order ≡ n.order = cc in
+    let spaces : m.spaces ≡ n.spaces = cc in
+    let catalog : m.catalog ≡ n.catalog = cc in
+    let threshold : m.threshold ≡ n.threshold = cc in
+    let whole : m ≡ record { page = m.page; order = m.order; spaces = m.spaces; catalog = m.catalog; threshold = m.threshold } = refl in
+    whole ∙ rw (page, order, spaces, catalog, threshold) refl
 
 -- an object of the same store, with the same annals and the same committed bytes, keeps the terms
 pub suits-kept : {B H : Type 0} (tells : Bool) (form : B → Form) (contents : B → Contents) (told : H → Option (List End)) (terms : Terms)

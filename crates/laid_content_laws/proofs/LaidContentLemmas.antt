@@ -236,7 +236,7 @@ extended-holds n at now entries change runs payload is stay any full end nothing
 -- ---- the plan of a change
 
 -- by how a plan meets the spare
-written-as : (fit : Fit) (n : Numbers) (at now : Pages) (entries : List Pair) (spare : Option Extent) (change : Change) (plan : Plan)
+pub written-as : (fit : Fit) (n : Numbers) (at now : Pages) (entries : List Pair) (spare : Option Extent) (change : Change) (plan : Plan)
     (runs : List (List Extent)) (payload : List ℕ) → plan.fit ≡ fit →
     IsWrittenBy plan.fit n at now entries spare change plan runs payload →
     IsWrittenBy fit n at now entries spare change plan runs payload
@@ -244,20 +244,18 @@ written-as fit n at now entries spare change plan runs payload is written =
     subst (λ (f : Fit). IsWrittenBy f n at now entries spare change plan runs payload) is written
 
 -- a plan whose last segment grows, or one whose parts are merged
-plan-cases : (n : Numbers) (tree : Tree) (spare : Option Extent) (change : Change) →
-    ((fit_appended n.page (tree_entries tree) (extent_pages spare) change ≡ Extend)
-    × (plan_of n tree spare change ≡ plan_extended (tree_entries tree) change))
-    ⊎ (plan_of n tree spare change ≡ merged_plan n tree.threshold (tree_entries tree) (extent_pages spare) change)
+pub plan-cases : (n : Numbers) (least : ℕ) (entries : List Pair) (pages : ℕ) (change : Change) →
+    ((fit_appended n.page entries pages change ≡ Extend) × (planned n least entries pages change ≡ plan_extended entries change))
+    ⊎ (planned n least entries pages change ≡ merged_plan n least entries pages change)
 unfolding planned
-plan-cases n tree spare change = go (fit_appended n.page (tree_entries tree) (extent_pages spare) change) refl
+plan-cases n least entries pages change = go (fit_appended n.page entries pages change) refl
   where
-    go : (fit : Fit) → fit_appended n.page (tree_entries tree) (extent_pages spare) change ≡ fit →
-        ((fit_appended n.page (tree_entries tree) (extent_pages spare) change ≡ Extend)
-        × (plan_of n tree spare change ≡ plan_extended (tree_entries tree) change))
-        ⊎ (plan_of n tree spare change ≡ merged_plan n tree.threshold (tree_entries tree) (extent_pages spare) change)
-    go Extend is = inl (is, rw (is, plan_of, planned) refl)
-    go Follow is = inr (rw (is, plan_of, planned) refl)
-    go Fresh is = inr (rw (is, plan_of, planned) refl)
+    go : (fit : Fit) → fit_appended n.page entries pages change ≡ fit →
+        ((fit_appended n.page entries pages change ≡ Extend) × (planned n least entries pages change ≡ plan_extended entries change))
+        ⊎ (planned n least entries pages change ≡ merged_plan n least entries pages change)
+    go Extend is = inl (is, rw (is, planned) refl)
+    go Follow is = inr (rw (is, planned) refl)
+    go Fresh is = inr (rw (is, planned) refl)
 
 -- where the bytes of a plan are written, what it lays out holds the edited bytes
 abbrev pub HoldsEdited : Numbers → Pages → Pages → Tree → Option Extent → Change → List (List Extent) → List ℕ → Plan → Type 0
@@ -309,7 +307,7 @@ pub planned-edited : (n : Numbers) (at now : Pages) (tree : Tree) (spare : Optio
     HoldsEdited n at now tree spare change runs payload (plan_of n tree spare change)
 planned-edited n at now tree spare change runs payload is stay tail changes =
     let P : Plan → Type 0 = HoldsEdited n at now tree spare change runs payload in
-    elim (plan-cases n tree spare change) [
+    elim (plan-cases n tree.threshold (tree_entries tree) (extent_pages spare) change) [
       | inl grows ↦ subst P (sym grows.1) (extended-edited n at now tree spare change runs payload is stay tail changes grows.0)
       | inr merged ↦ subst P (sym merged) (merged-edited n at now tree spare change runs payload is stay)
     ]

@@ -1,3 +1,4 @@
 pub mod StayLemmas
 pub mod LaidContentLemmas
+pub mod WindowContentLemmas
 mod Worked

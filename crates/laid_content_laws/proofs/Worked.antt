@@ -25,9 +25,11 @@ use Rattle.moment_laws.specs.ByObject.{IsSoundSlot}
 use Rattle.moment_laws.specs.Granting.{AreSpaces, granted_runs, got_grants}
 use Rattle.moment_laws.proofs.GrantLemmas.{covers-cases}
 use Rattle.tree_pages.specs.Levels.{version_plain}
-use Rattle.laid_content_laws.specs.Written.{IsGrantedChange, OthersStay, IsWritten}
+use Rattle.window_laws.specs.Window.{moved, window_at}
+use Rattle.laid_content_laws.specs.Written.{IsGrantedChange, OthersStay, IsWritten, IsWrittenBy}
 use Rattle.laid_content_laws.proofs.StayLemmas.{committed-holds}
 use Rattle.laid_content_laws.proofs.LaidContentLemmas.{laid-edited}
+use Rattle.laid_content_laws.proofs.WindowContentLemmas.{window-written}
 
 abbrev small : Numbers
 small = record { page = 256; order = 4; spaces = 1; catalog = 1; threshold = 2 }
@@ -361,3 +363,38 @@ long-holds = laid-edited small 0 (committed filled (Some (tail 256 3))) filled (
 long-committed : version_plain after_long 256 (Some filled) ≡ plain.Present (replicate 256 3)
 long-committed = committed-holds small 0 (committed filled (Some (tail 256 3))) filled (append 256 300) (free_after 5 11)
     (free_after 6 10) (on_node 8) at after_long long-is long-others
+
+-- ---- a window: of five segments of two pages each the middle three are enough to write a byte that is put into the third
+
+abbrev two : ℕ → Pair
+two page = record { bytes = 512; page = page }
+
+abbrev five : Tree
+five = record {
+  levels = (record { page = 13; pairs = two 3 ∷ two 5 ∷ two 7 ∷ two 9 ∷ two 11 ∷ [] } ∷ []) ∷ [];
+  threshold = 2;
+}
+
+abbrev put_third : Change
+put_third = record { at = 1279; removed = 0; added = 1; appends = false }
+
+abbrev on_fourteen : Grants
+on_fourteen = record { runs = (run 14 2 ∷ []) ∷ []; pages = 16 ∷ [] }
+
+abbrev after_third : Pages
+after_third = with_page 14 (replicate 255 7 ++ 45 ∷ []) (with_page 15 (7 ∷ replicate 255 0) at)
+
+third-window : window_at (tree_entries five) 1279 0 ≡ two 5 ∷ two 7 ∷ two 9 ∷ []
+third-window = refl
+
+third-told : IsWrittenBy (planned small 2 (window_at (tree_entries five) 1279 0) 0 (moved 512 put_third)).fit small at after_third
+    (window_at (tree_entries five) 1279 0) None (moved 512 put_third)
+    (planned small 2 (window_at (tree_entries five) 1279 0) 0 (moved 512 put_third)) on_fourteen.runs (45 ∷ [])
+unfolding planned
+third-told = (refl, tt)
+
+third-written : IsWritten small at after_third five None put_third on_fourteen (45 ∷ [])
+third-written = window-written small at after_third five None put_third on_fourteen (45 ∷ []) (omega arith)
+    (omega arith, (omega arith, (omega arith, (omega arith, (omega arith, tt)))))
+    ((λ k below. refl), ((λ k below. refl), ((λ k below. refl), ((λ k below. refl), ((λ k below. refl), tt)))))
+    (record { within = omega arith; some = omega arith; at_end = λ appends. cc }) refl third-told

@@ -7,7 +7,7 @@ ghost use Rattle.std.specs.List.{filter};
 ghost use Rattle.std.specs.Map.{lookup, remove_entry};
 ghost use Rattle.lru.specs.LruCache.{promoted, put_entries};
 ghost use Rattle.node_codec.specs.declared.parsed.Node.{Node};
-ghost use Rattle.page_cache.specs.Kept.{kept, IsNodeOf, KeepsSame, IsPutIn, is_on_run};
+ghost use Rattle.page_cache.specs.Kept.{kept, IsCopied, IsNodeOf, KeepsSame, IsPutIn, is_on_run};
 
 use lru::LruCache;
 use node_codec::Node;
@@ -113,11 +113,7 @@ impl Cache {
 fn find(nodes: &mut LruCache<u32, Node>, page: u32, into: &mut Node) -> bool
     requires { IfSome (lookup (nat_eq page) nodes.old.entries)
         (λ node. length node.pairs.items ≤ into.old.pairs.room) }
-    ensures found { IsTrue result ↔ IsSome (lookup (nat_eq page) nodes.old.entries) }
-    ensures node { IfSome (lookup (nat_eq page) nodes.old.entries)
-        (λ node. IsNodeOf into.new node) }
-    ensures missed { result ≡ false → into.new ≡ into.old }
-    ensures room { into.new.pairs.room ≡ into.old.pairs.room }
+    ensures copied { IsCopied result (lookup (nat_eq page) nodes.old.entries) into.old into.new }
     ensures same { (q : ℕ) → lookup (nat_eq q) nodes.new.entries
         ≡ lookup (nat_eq q) nodes.old.entries }
     ensures used { nodes.new.entries ≡ promoted (nat_eq page) nodes.old.entries }

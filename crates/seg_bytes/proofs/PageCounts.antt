@@ -62,8 +62,15 @@ some_left n none test e = elim (cases_lt 0 n) [
   | inr nothing ↦ absurd (eqb-false n 0 (sym test ∙ e) (omega arith))
 ]
 
--- the whole pages of some bytes
-pub whole_part : (n size part : ℕ) → 0 < size → part ≡ n / size * size → (part % size ≡ 0) × (part / size ≡ n / size)
-whole_part n size part some e =
-    let same : part ≡ n / size * size + 0 = omega arith in
-    (ap (λ (k : ℕ). k % size) same ∙ mod-mul-add (n / size) size 0 some, ap (λ (k : ℕ). k / size) same ∙ div-mul-add (n / size) size 0 some)
+-- the bytes of whole pages
+pub whole_part : (pages size part : ℕ) → 0 < size → part ≡ pages * size → (part % size ≡ 0) × (part / size ≡ pages)
+whole_part pages size part some e =
+    let same : part ≡ pages * size + 0 = omega arith in
+    (ap (λ (k : ℕ). k % size) same ∙ mod-mul-add pages size 0 some, ap (λ (k : ℕ). k / size) same ∙ div-mul-add pages size 0 some)
+
+-- the pages that bytes fill, by a quotient that is rounded up
+pub ceil_pages : (size unit n pages : ℕ) → 0 < size → unit ≡ size → pages ≡ n / unit + min 1 (n % unit) →
+    pages * unit ≡ page_count size n * size
+ceil_pages size unit n pages some same e =
+    ap (λ (k : ℕ). k * unit) e ∙ ap (λ (u : ℕ). (n / u + min 1 (n % u)) * u) same
+    ∙ ap (λ (k : ℕ). k * size) (sym (page_count-parts size n some))

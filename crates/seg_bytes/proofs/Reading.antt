@@ -5,13 +5,10 @@ use Rattle.std.proofs.Common.{drop-cons, append-nil}
 use Rattle.std.specs.Prelude.{IsTrue}
 use Rattle.std.specs.List.{AllByRecursion}
 use Rattle.std.proofs.lemmas.Bool.{cases_lt}
-use Rattle.std.proofs.lemmas.List.{take_all, take-append-le, drop-append-le, drop_all, length-map}
+use Rattle.std.proofs.lemmas.List.{take_all, take-append-le, drop-append-le, drop_all, length-map, length-take-le}
 use Rattle.std.proofs.Math.ListN.{get_or-map}
-use Rattle.std.proofs.lemmas.Slice.{take-put_mid}
-use borrow.Rule.Slice.PartMut.{put_mid}
 use Rattle.std.proofs.Math.Seq.{take-append-add, drop-append-add}
 use Rattle.std.proofs.lemmas.List.Sums.{sum_by-cons}
-use Rattle.page_port.proofs.PageLists.{length-page_part}
 use Rattle.fault_count.specs.Counts.{Meter, Reads}
 use Rattle.tree_model.specs.declared.entry.Pair.{Pair}
 use Rattle.tree_model.specs.declared.entry.Placed.{Placed}
@@ -19,6 +16,7 @@ use Rattle.tree_model.specs.Tree.{Pages, bytes_of}
 use Rattle.tree_model.specs.Range.{Covers, pairs_of, start_of}
 use Rattle.tree_model.specs.Content.{content, segment_bytes}
 use Rattle.seg_bytes.specs.Segments.{pages_touched, touched}
+use Rattle.seg_bytes.proofs.Runs.{take-joined}
 use Rattle.fault_count.proofs.CountLaws.{Reads-none, Reads-then, Reads-more}
 
 -- `done` bytes were read from the segments before the j-th, and the others stand from byte `skip` of the rest on
@@ -182,66 +180,55 @@ next_pair placed j less =
     ∙ ap (λ (p : Pair). p ∷ drop (suc j) (pairs_of placed)) (get_or-map (λ (s : Placed). s.pair) placed j no_segment)
     ∙ ap (λ (k : ℕ). (get_or placed j no_segment).pair ∷ drop k (pairs_of placed)) next
 
--- the call that reads a part of one segment into its place
-pub record IsTurn (told : Bool) (at : Pages) (size page done skip count : ℕ) (p : Pair) (out part : List ℕ) (mid new : Meter) : Type 0 where
+-- the call that reads a part of one segment to its place, and maybe what stands behind it
+pub record IsTurn (size page done skip count : ℕ) (p : Pair) (out : List ℕ) (mid new : Meter) : Type 0 where
   pub same : page ≡ size
   pub count_is : count ≡ min (length out - done) (p.bytes - skip)
-  pub reads : Reads (pages_touched page skip (length (take (done + count - done) (drop done out)))) mid new
+  pub reads : Reads (pages_touched page skip count) mid new
 
-turn_fits : (told : Bool) (at : Pages) (size page done skip count : ℕ) (p : Pair) (out part : List ℕ)
-    (mid new : Meter) → IsTurn told at size page done skip count p out part mid new → done ≤ length out →
-    done + count ≤ length out
-turn_fits told at size page done skip count p out part mid new t within = let e = t.count_is in omega arith
-
-turn_reads : (told : Bool) (at : Pages) (size page done skip count : ℕ) (p : Pair) (out part : List ℕ)
-    (mid new : Meter) → IsTurn told at size page done skip count p out part mid new → done ≤ length out →
-    Reads (pages_touched size skip count) mid new
-turn_reads told at size page done skip count p out part mid new t within =
-    subst (λ (k : ℕ). Reads (pages_touched k skip count) mid new) t.same
-    (subst (λ (k : ℕ). Reads (pages_touched page skip k) mid new)
-    (length-page_part done count out (turn_fits told at size page done skip count p out part mid new t within))
-    t.reads)
+turn_reads : (size page done skip count : ℕ) (p : Pair) (out : List ℕ) (mid new : Meter) →
+    IsTurn size page done skip count p out mid new → Reads (pages_touched size skip count) mid new
+turn_reads size page done skip count p out mid new t =
+    subst (λ (k : ℕ). Reads (pages_touched k skip count) mid new) t.same t.reads
 
 pub IsReading-turn : (told : Bool) (at : Pages) (size page first len : ℕ) (placed : List Placed)
-    (j done skip skip2 count : ℕ) (out part : List ℕ) (old mid new : Meter)
+    (j done skip skip2 count : ℕ) (out part rest : List ℕ) (old mid new : Meter)
     → IsReading told at size first len (pairs_of placed) j done skip out old mid → j < length placed → length out ≡ len
-    → IsTurn told at size page done skip count (get_or placed j no_segment).pair out part mid new
+    → IsTurn size page done skip count (get_or placed j no_segment).pair out mid new
     → skip2 ≡ skip - (get_or placed j no_segment).pair.bytes
     → (IsTrue told → length (segment_bytes at size (get_or placed j no_segment).pair) ≡ (get_or placed j no_segment).pair.bytes)
-    → (IsTrue told → part ≡ take (length (take (done + count - done) (drop done out)))
-    (drop skip (segment_bytes at page (get_or placed j no_segment).pair)))
-    → length part ≡ length (take (done + count - done) (drop done out)) → new.faults ≡ mid.faults
-    → IsReading told at size first len (pairs_of placed) (j + 1) (done + count) skip2 (put_mid done (done + count - done) out part) old new
-IsReading-turn told at size page first len placed j done skip skip2 count out part old mid new so_far less long t e full read whole quiet =
-    let p : Pair = (get_or placed j no_segment).pair in
+    → (IsTrue told → take count part ≡ take count (drop skip (segment_bytes at page (get_or placed j no_segment).pair)))
+    → count ≤ length part → new.faults ≡ mid.faults
+    → IsReading told at size first len (pairs_of placed) (j + 1) (done + count) skip2 (take done out ++ (part ++ rest)) old new
+IsReading-turn told at size page first len placed j done skip skip2 count out part rest old mid new so_far less long t e
+    full read room quiet =
     let within = so_far.within in
-    let fits = turn_fits told at size page done skip count (get_or placed j no_segment).pair out part mid new t (omega arith) in
-    let count_long = length-page_part done count out fits in
     let count_is = t.count_is in
+    let behind : done + count - done ≡ count = omega arith in
     subst (λ (k : ℕ). IsReading told at size first len (pairs_of placed) (j + 1)
-    (done + count) k (put_mid done (done + count - done) out part) old new) (sym e)
+    (done + count) k (take done out ++ (part ++ rest)) old new) (sym e)
     (IsReading-more told at size first len (pairs_of placed) (drop (j + 1) (pairs_of placed))
-    (get_or placed j no_segment).pair j done skip count out part (put_mid done (done + count - done) out part)
+    (get_or placed j no_segment).pair j done skip count out (take count part) (take done out ++ (part ++ rest))
     old mid new
     so_far (next_pair placed j less) refl (omega arith) full
-    (λ is_told. read is_told ∙ ap (λ (k : ℕ). take k (drop skip (segment_bytes at page (get_or placed j no_segment).pair))) count_long
-    ∙ ap (λ (k : ℕ). take count (drop skip (segment_bytes at k (get_or placed j no_segment).pair))) t.same)
-    (take-put_mid done (done + count - done) out part (done + count) (omega arith) (omega arith))
-    (turn_reads told at size page done skip count (get_or placed j no_segment).pair out part mid new t (omega arith)) quiet)
+    (λ is_told. read is_told ∙ ap (λ (k : ℕ). take count (drop skip (segment_bytes at k (get_or placed j no_segment).pair))) t.same)
+    (take-joined (done + count) done (take done out) (part ++ rest) (length-take-le done out (omega arith)) (omega arith)
+    ∙ ap (λ (k : ℕ). take done out ++ take k (part ++ rest)) behind
+    ∙ ap (λ (bytes : List ℕ). take done out ++ bytes) (take-append-le count part rest room))
+    (turn_reads size page done skip count (get_or placed j no_segment).pair out mid new t) quiet)
 
 pub IsReading-stop : (told : Bool) (at : Pages) (size page first len : ℕ) (placed : List Placed)
-    (j done skip count : ℕ) (out part : List ℕ) (old mid new : Meter)
+    (j done skip count : ℕ) (out : List ℕ) (old mid new : Meter)
     → IsReading told at size first len (pairs_of placed) j done skip out old mid → j < length placed → length out ≡ len
-    → IsTurn told at size page done skip count (get_or placed j no_segment).pair out part mid new →
+    → IsTurn size page done skip count (get_or placed j no_segment).pair out mid new →
     Reads (touched size (pairs_of placed) first len) old new
-IsReading-stop told at size page first len placed j done skip count out part old mid new so_far less long t =
+IsReading-stop told at size page first len placed j done skip count out old mid new so_far less long t =
     let within = so_far.within in
     let count_is = t.count_is in
     IsReading-stopped told at size first len (pairs_of placed) (drop (j + 1) (pairs_of placed))
     (get_or placed j no_segment).pair j done skip count out old mid new
     so_far (next_pair placed j less) (omega arith)
-    (turn_reads told at size page done skip count (get_or placed j no_segment).pair out part mid new t
-    (omega arith))
+    (turn_reads size page done skip count (get_or placed j no_segment).pair out mid new t)
 
 -- what holds of each segment holds of the j-th
 pub each_segment : (P : Placed → Type 0) (placed : List Placed) (j : ℕ) → AllByRecursion P placed →

@@ -1,11 +1,11 @@
 -- The bytes of a run of pages that are held, and parts of them.
-use Rattle.std.proofs.Common.{◌≡◌, ℕ, zero, suc, ◌+◌, ◌-◌, ◌*◌, ◌/◌, ◌%◌, ◌<◌, ◌≤◌, Bool, List, [], ◌∷◌, ◌++◌}
-use Rattle.std.proofs.Common.{length, take, drop, min, Option, Some, None, refl, sym, ap, ◌∙◌, subst, inl, inr}
+use Rattle.std.proofs.Common.{◌≡◌, ℕ, zero, suc, ◌+◌, ◌-◌, ◌*◌, ◌/◌, ◌%◌, ◌<◌, ◌≤◌, Bool, List, [], ◌++◌}
+use Rattle.std.proofs.Common.{length, take, drop, min, Option, Some, None, sym, ap, ◌∙◌, subst, inl, inr}
 use Rattle.std.proofs.Common.{arith, append-nil, length-drop}
 use Rattle.std.specs.Prelude.{◌^◌, IsTrue, IfSome, is_some, unwrap_or}
 use Rattle.std.proofs.lemmas.Bool.{cases_lt}
 use Rattle.std.proofs.lemmas.Bool.Decides.{nat_tests}
-use Rattle.std.proofs.lemmas.List.{length-append, take_all, take-append-le, drop-append-le, length-take-le, drop-take}
+use Rattle.std.proofs.lemmas.List.{length-append, take_all, take-append-le, drop-append-le, length-take-le, drop-take, take-take}
 use Rattle.std.proofs.Math.Seq.{take-append-add, drop-append-add}
 use Rattle.std.proofs.Math.Nat.{mod-add-div}
 use Rattle.std.proofs.lemmas.Nat.{mod_below}
@@ -230,16 +230,15 @@ read_odd at size unit first skip n head front rest some e full =
     subst P (sym e) (read_odd-same at size first skip n head front rest some full)
 
 -- the pages behind the first one
-pub behind_first : (held : Held) (size unit page first skip n head rest : ℕ) → 0 < size → unit ≡ size →
+pub behind_first : (held : Held) (size unit page first skip n head : ℕ) → 0 < size → unit ≡ size →
     page ≡ size → HasBytes held size first (skip + n) → (skip % unit ≡ 0 → ⊥)
-    → head ≡ min (unit - skip % unit) n → rest ≡ n - head → HasBytes held page (first + skip / unit + 1) rest
-behind_first held size unit page first skip n head rest some e same h odd shorter left =
+    → head ≡ min (unit - skip % unit) n → HasBytes held page (first + skip / unit + 1) (n - head)
+behind_first held size unit page first skip n head some e same h odd shorter =
     let odd_size : skip % size ≡ 0 → ⊥ = λ even. odd (ap (λ (k : ℕ). skip % k) e ∙ even) in
     let head_is : head ≡ min (size - skip % size) n = shorter ∙ ap (λ (k : ℕ). min (k - skip % k) n) e in
-    subst (λ (k : ℕ). HasBytes held k (first + skip / unit + 1) rest) (sym same)
-    (subst (λ (k : ℕ). HasBytes held size (first + skip / k + 1) rest) (sym e)
-    (subst (λ (k : ℕ). HasBytes held size (first + skip / size + 1) k) (sym left)
-    (HasBytes-behind held size first skip n head some h (omega arith) head_is)))
+    subst (λ (k : ℕ). HasBytes held k (first + skip / unit + 1) (n - head)) (sym same)
+    (subst (λ (k : ℕ). HasBytes held size (first + skip / k + 1) (n - head)) (sym e)
+    (HasBytes-behind held size first skip n head some h (omega arith) head_is))
 
 -- the pages that such a read touches
 pub odd_pages : (size unit skip n head : ℕ) → 0 < size → unit ≡ size → (skip % unit ≡ 0 → ⊥) → head ≡ min (unit - skip % unit) n
@@ -258,12 +257,6 @@ odd_pages size unit skip n head some e odd shorter =
           let no_page : page_count size (n - head) ≡ 0 = ap (page_count size) nothing ∙ count-none size some in
           omega arith
     ]
-
-take-take : (a b : ℕ) (xs : List ℕ) → a ≤ b → take a (take b xs) ≡ take a xs
-take-take zero b xs less = refl
-take-take (suc a) zero xs less = absurd (omega arith)
-take-take (suc a) (suc b) [] less = refl
-take-take (suc a) (suc b) (x ∷ xs) less = ap (λ (rest : List ℕ). x ∷ rest) (take-take a b xs (omega arith))
 
 -- a part of a segment, read from the run of its pages
 pub segment_part : (at : Pages) (size first bytes skip n : ℕ) → 0 < size → AreFull at size first (page_count size bytes) → skip + n ≤ bytes

@@ -47,8 +47,15 @@ pub fn read_bytes<P: Port>(
     for segment in placed {
         let bytes = segment.pair.bytes;
         let count = bytes_here(bytes, skip, out.len() - done);
-        let part = &mut out[done..done + count];
-        read_here(held, port, segment.pair, skip, part, scratch)?;
+        read_here(
+            held,
+            port,
+            segment.pair,
+            skip,
+            count,
+            &mut out[done..],
+            scratch,
+        )?;
         skip = skip.saturating_sub(bytes);
         done += count;
     }
@@ -72,29 +79,31 @@ fn bytes_here(bytes: u64, skip: u64, left: usize) -> usize
     (left as u64).min(bytes.saturating_sub(skip)) as usize
 }
 
-/// Reads bytes of a segment from byte `skip` of it on. Where there are none to read, the device
-/// isn't called.
+/// Reads `count` bytes of a segment from byte `skip` of it on. Where there are none to read, the
+/// device isn't called. What stands behind them in `out` may have anything then.
 fn read_here<P: Port>(
     held: &Holdings<P::S>,
     port: &mut P,
     pair: Pair,
     skip: u64,
+    count: usize,
     out: &mut [u8],
     scratch: &mut [u8],
 ) -> Result<(), DeviceFault>
     requires scratch { length scratch.old ≡ (P.meter port.old).page }
     requires some { 0 < (P.meter port.old).page }
-    requires inside { 0 < length out.old → skip + length out.old ≤ pair.bytes }
+    requires room { count ≤ length out.old }
+    requires inside { 0 < count → skip + count ≤ pair.bytes }
     requires held { HasSegment held.now (P.meter port.old).page pair }
     requires sized { AllSized P.S.tells (P.meter port.old).page held.now }
-    ensures bytes { OnOk result (IsTrue P.S.tells → out.new ≡ take (length out.old)
+    ensures bytes { OnOk result (IsTrue P.S.tells → take count out.new ≡ take count
         (drop skip (segment_bytes (bytes_on held.now) (P.meter port.old).page pair))) }
-    ensures reads { Reads (pages_touched (P.meter port.old).page skip (length out.old))
+    ensures reads { Reads (pages_touched (P.meter port.old).page skip count)
         (P.meter port.old) (P.meter port.new) }
     ensures cause { HasCause (P.meter port.old).faults (P.meter port.new).faults (IsErr result) }
 {
-    if out.is_empty() {
+    if count == 0 {
         return Ok(());
     }
-    read_from(held, port, pair.page, skip, out, scratch)
+    read_from(held, port, pair.page, skip, count, out, scratch)
 }

@@ -12,23 +12,26 @@ use crate::part::read_part;
 use page_port::{DeviceFault, Port};
 use span_store::Holdings;
 
-/// Reads bytes of a run of pages from byte `skip` of it on.
+/// Reads `count` bytes of a run of pages from byte `skip` of it on. What stands behind them in
+/// `out` may have anything then.
 pub fn read_from<P: Port>(
     held: &Holdings<P::S>,
     port: &mut P,
     first: u32,
     skip: u64,
+    count: usize,
     out: &mut [u8],
     scratch: &mut [u8],
 ) -> Result<(), DeviceFault>
     requires scratch { length scratch.old ≡ (P.meter port.old).page }
     requires some { 0 < (P.meter port.old).page }
-    requires held { HasBytes held.now (P.meter port.old).page first (skip + length out.old) }
+    requires room { count ≤ length out.old }
+    requires held { HasBytes held.now (P.meter port.old).page first (skip + count) }
     requires sized { AllSized P.S.tells (P.meter port.old).page held.now }
-    ensures bytes { OnOk result (IsTrue P.S.tells → out.new ≡ take (length out.old) (drop skip
+    ensures bytes { OnOk result (IsTrue P.S.tells → take count out.new ≡ take count (drop skip
         (run_bytes (bytes_on held.now) first
-        (page_count (P.meter port.old).page (skip + length out.old))))) }
-    ensures reads { Reads (pages_touched (P.meter port.old).page skip (length out.old))
+        (page_count (P.meter port.old).page (skip + count))))) }
+    ensures reads { Reads (pages_touched (P.meter port.old).page skip count)
         (P.meter port.old) (P.meter port.new) }
     ensures cause { HasCause (P.meter port.old).faults (P.meter port.new).faults (IsErr result) }
 {
@@ -36,16 +39,46 @@ pub fn read_from<P: Port>(
     let page = first + (skip / size) as u32;
     let from = (skip % size) as usize;
     if from == 0 {
-        return read_front(held, port, page, out, scratch);
+        return read_front(held, port, page, count, out, scratch);
     }
-    let head = (size as usize - from).min(out.len());
+    let head = (size as usize - from).min(count);
     let (front, rest) = out.split_at_mut(head);
     read_part(held, port, page, from, front, scratch)?;
-    read_front(held, port, page + 1, rest, scratch)
+    read_front(held, port, page + 1, count - head, rest, scratch)
 }
 
-/// Reads bytes of a run of pages from its first byte on.
+/// Reads `count` bytes of a run of pages from its first byte on: by one call for a span where `out`
+/// has room for all of the last page. What stands behind them in `out` may have anything then.
 fn read_front<P: Port>(
+    held: &Holdings<P::S>,
+    port: &mut P,
+    first: u32,
+    count: usize,
+    out: &mut [u8],
+    scratch: &mut [u8],
+) -> Result<(), DeviceFault>
+    requires scratch { length scratch.old ≡ (P.meter port.old).page }
+    requires some { 0 < (P.meter port.old).page }
+    requires room { count ≤ length out.old }
+    requires held { HasBytes held.now (P.meter port.old).page first count }
+    requires sized { AllSized P.S.tells (P.meter port.old).page held.now }
+    ensures bytes { OnOk result (IsTrue P.S.tells → take count out.new ≡ take count
+        (run_bytes (bytes_on held.now) first (page_count (P.meter port.old).page count))) }
+    ensures reads { Reads (page_count (P.meter port.old).page count)
+        (P.meter port.old) (P.meter port.new) }
+    ensures cause { HasCause (P.meter port.old).faults (P.meter port.new).faults (IsErr result) }
+{
+    let size = port.page() as usize;
+    let room = count.div_ceil(size) * size;
+    if room <= out.len() {
+        return read_whole(held, port, first, &mut out[..room]);
+    }
+    read_exactly(held, port, first, &mut out[..count], scratch)
+}
+
+/// Reads bytes of a run of pages from its first byte on, and writes to `out` nothing else: the last
+/// page goes by way of scratch where it is wanted in part.
+fn read_exactly<P: Port>(
     held: &Holdings<P::S>,
     port: &mut P,
     first: u32,

@@ -20,21 +20,10 @@ use Rattle.shadow_txn.specs.Held.{held_object}
 use Rattle.shadow_txn.specs.Transaction.{Transaction, with_end}
 use Rattle.superdirectory.specs.Grants.{KeepsFrame}
 use Rattle.superdirectory.specs.Rest.{Rest, count}
-use Rattle.body_txn.specs.Ending.{Standing, EndInTurn}
 use Rattle.body_txn.specs.Fields.{at_annals, frame_by, LegalBy}
 use Rattle.body_txn.specs.Serving.{ServesTxn, GoesOn}
+use Rattle.body_txn.proofs.ServingLemmas.{listed-one}
 use Rattle.txn_rows.specs.Session.{IsAtWork, AreFresh}
-
--- numbers that are listed alike are the same
-pub listed-one : (m n : Numbers) → listed m ≡ listed n → m ≡ n
-listed-one m n same =
-    let page : m.page ≡ n.page = cc in
-    let order : m.order ≡ n.order = cc in
-    let spaces : m.spaces ≡ n.spaces = cc in
-    let catalog : m.catalog ≡ n.catalog = cc in
-    let threshold : m.threshold ≡ n.threshold = cc in
-    let whole : m ≡ record { page = m.page; order = m.order; spaces = m.spaces; catalog = m.catalog; threshold = m.threshold } = refl in
-    whole ∙ rw (page, order, spaces, catalog, threshold) refl
 
 -- a held object is of the session's store
 pub of-store : {B H : Type 0} (tells : Bool) (form : B → Form) (contents : B → Contents) (told : H → Option (List End)) (last : H → ℕ)
@@ -131,17 +120,6 @@ over {B} {H} tells form contents told last txn new stamp slots home rest page wo
   sized = work.sized;
   some = work.some;
 }
-
--- an end leaves the frame of the spaces
-pub turns-keep : {T : Type 0} (Step : T → Standing → Standing → Type 0) (held : List (Held T)) (before after : Standing)
-    → ((x : T) (old new : Standing) → Step x old new → KeepsFrame old.rest new.rest) → before.rest.entered ≡ None
-    → EndInTurn Step held before after → KeepsFrame before.rest after.rest
-turns-keep Step [] before after each none turns =
-    record { frame = ap (λ s. s.rest.frame) turns; entered = ap (λ s. s.rest.entered) turns ∙ none }
-turns-keep Step (h ∷ held) before after each none turns =
-    let earlier = turns-keep Step held before turns.0 each none turns.1 in
-    let last = each h.object turns.0 after turns.2 in
-    record { frame = last.frame ∙ earlier.frame; entered = last.entered }
 
 -- a shelf for one thread serves a transaction that holds nothing
 pub serves-solo : {T : Type 0} (told : T → Option (List End)) (last : T → ℕ) (t : Transaction T) (slots : List (Option T))

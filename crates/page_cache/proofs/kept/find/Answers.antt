@@ -1,7 +1,7 @@
 -- To be the one used last changes no page's node.
-use Rattle.std.proofs.Common.{IfSome, IsSome, IsTrue, Option, refl, subst}
+use Rattle.std.proofs.Common.{Option, refl, subst}
 use Rattle.node_codec.specs.declared.parsed.Node.{Node}
-use Rattle.page_cache.specs.Kept.{IsNodeOf}
+use Rattle.page_cache.specs.Kept.{IsCopied}
 use Rattle.page_cache.proofs.KeptLemmas.{lookup-promoted, length-promoted}
 use Rattle.page_cache.proofs.kept.find.Goals as goal
 
@@ -17,12 +17,13 @@ returns-clause-used c = rw c.promote.ensures.entries refl
 pub returns-clause-count : goal.returns-clause-count
 returns-clause-count c = rw c.promote.ensures.entries (length-promoted c.args.page c.args.nodes.now.entries)
 
-pub returns-clause-found : goal.returns-clause-found
-returns-clause-found c =
-    let P : Option Node → Type 0 = λ o. (IsTrue c.copy_of.result → IsSome o) × (IsSome o → IsTrue c.copy_of.result) in
-    subst P (returns-clause-same c c.args.page) c.copy_of.ensures.found
-
-pub returns-clause-node : goal.returns-clause-node
-returns-clause-node c =
-    let P : Option Node → Type 0 = λ o. IfSome o (λ node. IsNodeOf c.copy_of.new.into node) in
-    subst P (returns-clause-same c c.args.page) c.copy_of.ensures.node
+pub returns-clause-copied : goal.returns-clause-copied
+returns-clause-copied c =
+    let P : Option Node → Type 0 = λ o. IsCopied c.copy_of.result o c.args.into.now c.copy_of.new.into in
+    subst P (returns-clause-same c c.args.page)
+    (record {
+      found = c.copy_of.ensures.found;
+      node = c.copy_of.ensures.node;
+      missed = c.copy_of.ensures.missed;
+      room = c.copy_of.ensures.room;
+    })

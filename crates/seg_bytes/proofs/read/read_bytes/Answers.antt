@@ -1,6 +1,7 @@
 -- Each turn reads the part of one segment that is wanted.
-use Rattle.std.proofs.Common.{ℕ, ◌-◌, ◌<◌, length, get_or, sym, subst, arith}
+use Rattle.std.proofs.Common.{ℕ, ◌-◌, ◌<◌, ◌≤◌, length, drop, length-drop, get_or, sym, subst, arith}
 use Rattle.std.proofs.lemmas.Bool.{false≢true}
+use Rattle.std.proofs.lemmas.List.{length-take-le}
 use Rattle.tree_model.specs.declared.entry.Placed.{Placed}
 use Rattle.tree_model.specs.Tree.{page_count}
 use Rattle.tree_model.specs.Range.{start_of}
@@ -16,7 +17,7 @@ returns-in_err-read_here-clause-reads g c =
     (g.P.Port.meter c.args.port.now).page (g.P.Port.meter c.loop-segment.port).page
     (c.args.at - start_of c.args.placed.now) (length c.args.out.now) c.args.placed.now
     c.loop-segment.segment-index c.loop-segment.done c.loop-segment.skip c.bytes_here-count.result
-    c.loop-segment.out c.read_here.new.out (g.P.Port.meter c.args.port.now) (g.P.Port.meter c.loop-segment.port)
+    c.loop-segment.out (g.P.Port.meter c.args.port.now) (g.P.Port.meter c.loop-segment.port)
     (g.P.Port.meter c.read_here.new.port)
     c.loop-segment.invariant (omega arith) c.loop-segment.auto.out
     (record {
@@ -42,11 +43,17 @@ pub loop-segment-preserved : goal.loop-segment-preserved
 loop-segment-preserved g c =
     let s : Placed = get_or c.args.placed.now c.loop-segment.segment-index no_segment in
     let less : c.loop-segment.segment-index < length c.args.placed.now = omega arith in
+    let left = length-drop c.loop-segment.done c.loop-segment.out in
+    let long = length-take-le (length c.loop-segment.out - c.loop-segment.done) (drop c.loop-segment.done c.loop-segment.out)
+    (omega (arith, left)) in
+    let room : c.bytes_here-count.result ≤ length c.read_here.new.out =
+    omega (arith, long, c.loop-segment.auto.out, c.read_here.auto.out, c.bytes_here-count.ensures) in
     IsReading-turn g.P.S.Span.tells (bytes_on c.args.held.now)
     (g.P.Port.meter c.args.port.now).page (g.P.Port.meter c.loop-segment.port).page
     (c.args.at - start_of c.args.placed.now) (length c.args.out.now) c.args.placed.now
     c.loop-segment.segment-index c.loop-segment.done c.loop-segment.skip c.saturating_sub-skip.result
-    c.bytes_here-count.result c.loop-segment.out c.read_here.new.out (g.P.Port.meter c.args.port.now)
+    c.bytes_here-count.result c.loop-segment.out c.read_here.new.out
+    (drop (length c.loop-segment.out - c.loop-segment.done) (drop c.loop-segment.done c.loop-segment.out)) (g.P.Port.meter c.args.port.now)
     (g.P.Port.meter c.loop-segment.port) (g.P.Port.meter c.read_here.new.port)
     c.loop-segment.invariant less c.loop-segment.auto.out
     (record {
@@ -66,4 +73,4 @@ loop-segment-preserved g c =
     c.requires.sized told
     (each_segment (λ (s : Placed). HoldsBytes c.args.held.now (g.P.Port.meter c.args.port.now).page s.pair.page
     s.pair.bytes) c.args.placed.now c.loop-segment.segment-index c.requires.held less)))
-    c.in_ok-read_here.ensures.bytes c.read_here.auto.out (c.in_ok-read_here.ensures.cause.still false≢true)
+    c.in_ok-read_here.ensures.bytes room (c.in_ok-read_here.ensures.cause.still false≢true)

@@ -1,45 +1,39 @@
--- Whole pages, and then a part of the next one.
-use Rattle.std.proofs.Common.{◌≡◌, ℕ, ◌+◌, ◌-◌, ◌*◌, ◌/◌, length, take, sym, ap, ◌∙◌, arith}
+-- Whole pages hold the bytes, and what stands behind them.
+use Rattle.std.proofs.Common.{◌≡◌, ◌*◌, ◌/◌, ◌≤◌, length, take, drop, ap, ◌∙◌, arith}
 use Rattle.std.specs.Prelude.{IsTrue}
+use Rattle.std.proofs.lemmas.List.{length-take-le, take-append-le}
 use Rattle.base_laws.proofs.ResultLaws.{on_ok}
 use Rattle.tree_model.specs.Tree.{page_count}
 use Rattle.tree_model.specs.Content.{run_bytes}
+use Rattle.tree_model.proofs.PageCountLaws.{count-holds}
 use Rattle.span_store.specs.Held.{bytes_on}
-use Rattle.seg_bytes.proofs.PageCounts.{whole_part}
-use Rattle.seg_bytes.proofs.Runs.{AreFull-held, front_bytes}
+use Rattle.seg_bytes.proofs.PageCounts.{whole_part, ceil_pages}
 use Rattle.seg_bytes.proofs.run.read_front.Goals as goal
 
 pub read_whole-requires-clause-even : goal.read_whole-requires-clause-even
 read_whole-requires-clause-even g c =
-    (whole_part (length c.args.out.now) (g.P.Port.meter c.args.port.now).page (length c.split_at_mut-whole.result.0.now) c.requires.some
-    (c.split_at_mut-whole.ensures.front_len ∙ ap (λ (k : ℕ). length c.args.out.now / k * k) c.page-size.ensures)).0
+    (whole_part (page_count (g.P.Port.meter c.args.port.now).page c.args.count) (g.P.Port.meter c.args.port.now).page
+    (length (take (c.div_ceil.result * c.page-size.result) c.args.out.now)) c.requires.some
+    (length-take-le (c.div_ceil.result * c.page-size.result) c.args.out.now (omega arith)
+    ∙ ceil_pages (g.P.Port.meter c.args.port.now).page c.page-size.result c.args.count c.div_ceil.result
+    c.requires.some c.page-size.ensures c.div_ceil.ensures)).0
 
-pub returns-clause-bytes : goal.returns-clause-bytes
-returns-clause-bytes g c =
-    let size : ℕ = (g.P.Port.meter c.args.port.now).page in
-    let n : ℕ = length c.args.out.now in
-    let pages : length c.args.out.now / c.page-size.result
-    ≡ length c.args.out.now / (g.P.Port.meter c.args.port.now).page =
-    ap (λ (k : ℕ). length c.args.out.now / k) c.page-size.ensures in
-    let front = whole_part (length c.args.out.now)
-    (g.P.Port.meter c.args.port.now).page (length c.split_at_mut-whole.result.0.now) c.requires.some
-    (c.split_at_mut-whole.ensures.front_len ∙ ap (λ (k : ℕ). length c.args.out.now / k * k) c.page-size.ensures) in
-    let rows : length c.args.out.now / c.page-size.result * c.page-size.result
-    ≡ length c.args.out.now / c.page-size.result * (g.P.Port.meter c.args.port.now).page =
-    ap (λ (k : ℕ). length c.args.out.now / c.page-size.result * k) c.page-size.ensures in
-    let left : length c.split_at_mut-whole.result.1.now
-    ≡ length c.args.out.now - length c.args.out.now / c.page-size.result * (g.P.Port.meter
-    c.args.port.now).page = omega (arith, rows, c.split_at_mut-whole.ensures.back_len) in
-    on_ok c.read_part.result
-    (λ (rest : IsTrue g.P.S.Span.tells → c.read_part.new.out ≡ take (length c.split_at_mut-whole.result.1.now)
-    (bytes_on c.args.held.now (c.args.first + length c.args.out.now / c.page-size.result))) told.
-    front_bytes (bytes_on c.args.held.now) (g.P.Port.meter c.args.port.now).page c.args.first
-    (length c.args.out.now) (length c.args.out.now / c.page-size.result) c.read_whole.new.out
-    c.read_part.new.out
-    c.requires.some pages
-    (AreFull-held g.P.S.Span.tells (g.P.Port.meter c.args.port.now).page c.args.first
-    (page_count (g.P.Port.meter c.args.port.now).page (length c.args.out.now)) c.args.held.now c.requires.sized
-    told c.requires.held.run)
-    (c.in_ok-read_whole.ensures.bytes told ∙ ap (run_bytes (bytes_on c.args.held.now) c.args.first) (front.1 ∙ sym pages))
-    (rest told ∙ ap (λ (k : ℕ). take k (bytes_on c.args.held.now (c.args.first + length c.args.out.now / c.page-size.result))) left))
-    c.read_part.ensures.bytes
+pub returns-then-room-out-clause-bytes : goal.returns-then-room-out-clause-bytes
+returns-then-room-out-clause-bytes g c =
+    let pages : c.div_ceil.result * c.page-size.result
+    ≡ page_count (g.P.Port.meter c.args.port.now).page c.args.count * (g.P.Port.meter c.args.port.now).page =
+    ceil_pages (g.P.Port.meter c.args.port.now).page c.page-size.result c.args.count c.div_ceil.result
+    c.requires.some c.page-size.ensures c.div_ceil.ensures in
+    let long : length (take (c.div_ceil.result * c.page-size.result) c.args.out.now) ≡ c.div_ceil.result * c.page-size.result =
+    length-take-le (c.div_ceil.result * c.page-size.result) c.args.out.now (omega arith) in
+    let whole = whole_part (page_count (g.P.Port.meter c.args.port.now).page c.args.count)
+    (g.P.Port.meter c.args.port.now).page (length (take (c.div_ceil.result * c.page-size.result) c.args.out.now))
+    c.requires.some (long ∙ pages) in
+    let enough = count-holds (g.P.Port.meter c.args.port.now).page c.args.count c.requires.some in
+    let full : c.args.count ≤ length c.read_whole.new.out = omega (arith, c.read_whole.auto.out, long, pages, enough) in
+    on_ok c.read_whole.result
+    (λ (read : IsTrue g.P.S.Span.tells → c.read_whole.new.out ≡ run_bytes (bytes_on c.args.held.now) c.args.first
+    (length (take (c.div_ceil.result * c.page-size.result) c.args.out.now) / (g.P.Port.meter c.args.port.now).page)) told.
+    take-append-le c.args.count c.read_whole.new.out (drop (c.div_ceil.result * c.page-size.result) c.args.out.now) full
+    ∙ ap (take c.args.count) (read told ∙ ap (run_bytes (bytes_on c.args.held.now) c.args.first) whole.1))
+    c.read_whole.ensures.bytes

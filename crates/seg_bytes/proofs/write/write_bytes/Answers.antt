@@ -16,7 +16,8 @@ use Rattle.seg_bytes.proofs.write.write_bytes.Goals as goal
 
 pub write_whole-requires-clause-even : goal.write_whole-requires-clause-even
 write_whole-requires-clause-even g c =
-    (whole_part (length c.args.bytes.now) (g.P.Port.meter c.args.port.now).page (length c.split_at.result.0.now) c.requires.some
+    (whole_part (length c.args.bytes.now / (g.P.Port.meter c.args.port.now).page) (g.P.Port.meter c.args.port.now).page
+    (length c.split_at.result.0.now) c.requires.some
     (c.split_at.ensures.front_len ∙ ap (λ (k : ℕ). length c.args.bytes.now / k * k) c.page-size.ensures)).0
 
 pub returns-clause-bytes : goal.returns-clause-bytes
@@ -27,7 +28,8 @@ returns-clause-bytes g c =
     let pages : length c.args.bytes.now / c.page-size.result
     ≡ length c.args.bytes.now / (g.P.Port.meter c.args.port.now).page =
     ap (λ (k : ℕ). length c.args.bytes.now / k) c.page-size.ensures in
-    let front = whole_part (length c.args.bytes.now) (g.P.Port.meter c.args.port.now).page (length c.split_at.result.0.now) c.requires.some
+    let front = whole_part (length c.args.bytes.now / (g.P.Port.meter c.args.port.now).page) (g.P.Port.meter c.args.port.now).page
+    (length c.split_at.result.0.now) c.requires.some
     (c.split_at.ensures.front_len ∙ ap (λ (k : ℕ). length c.args.bytes.now / k * k) c.page-size.ensures) in
     on_ok c.write_last.result
     (λ (wrote : IsTrue g.P.S.Span.tells → 0 < length c.split_at.result.1.now →
@@ -66,7 +68,8 @@ returns-clause-others g c =
     let pages : length c.args.bytes.now / c.page-size.result
     ≡ length c.args.bytes.now / (g.P.Port.meter c.args.port.now).page =
     ap (λ (k : ℕ). length c.args.bytes.now / k) c.page-size.ensures in
-    let front = whole_part (length c.args.bytes.now) (g.P.Port.meter c.args.port.now).page (length c.split_at.result.0.now) c.requires.some
+    let front = whole_part (length c.args.bytes.now / (g.P.Port.meter c.args.port.now).page) (g.P.Port.meter c.args.port.now).page
+    (length c.split_at.result.0.now) c.requires.some
     (c.split_at.ensures.front_len ∙ ap (λ (k : ℕ). length c.args.bytes.now / k * k) c.page-size.ensures) in
     record {
       others = IsOverwritten-then c.args.first (length c.args.bytes.now / c.page-size.result)
@@ -85,7 +88,8 @@ returns-clause-others g c =
 
 pub returns-in_err-write_whole-clause-others : goal.returns-in_err-write_whole-clause-others
 returns-in_err-write_whole-clause-others g c =
-    let front = whole_part (length c.args.bytes.now) (g.P.Port.meter c.args.port.now).page (length c.split_at.result.0.now) c.requires.some
+    let front = whole_part (length c.args.bytes.now / (g.P.Port.meter c.args.port.now).page) (g.P.Port.meter c.args.port.now).page
+    (length c.split_at.result.0.now) c.requires.some
     (c.split_at.ensures.front_len ∙ ap (λ (k : ℕ). length c.args.bytes.now / k * k) c.page-size.ensures) in
     let parts = page_count-parts (g.P.Port.meter c.args.port.now).page (length c.args.bytes.now) c.requires.some in
     record {

@@ -1,6 +1,7 @@
 -- All objects are home, and the spaces in their places.
 use Rattle.std.proofs.Common.{refl}
-use Rattle.txn_rows.proofs.SessionLemmas.{over, moved, ready-held, turns-keep}
+use Rattle.body_txn.proofs.EndingLemmas.{turns-keep}
+use Rattle.txn_rows.proofs.SessionLemmas.{over, moved, ready-held}
 use Rattle.txn_rows.proofs.session.Session.abort.Goals as goal
 
 pub abort-requires-clause-terms : goal.abort-requires-clause-terms

@@ -1,6 +1,7 @@
 -- All objects are home, and the spaces in their places.
 use Rattle.std.proofs.Common.{refl}
-use Rattle.txn_rows.proofs.SessionLemmas.{over, moved, ready-held, turns-keep}
+use Rattle.body_txn.proofs.EndingLemmas.{turns-keep}
+use Rattle.txn_rows.proofs.SessionLemmas.{over, moved, ready-held}
 use Rattle.txn_rows.proofs.session.Session.commit.Goals as goal
 
 pub commit-requires-clause-terms : goal.commit-requires-clause-terms

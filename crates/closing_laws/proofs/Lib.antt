@@ -1,0 +1,6 @@
+pub mod PagesUsed
+pub mod CatalogLemmas
+pub mod EntryLemmas
+pub mod ClosedLemmas
+pub mod ShownLemmas
+mod Worked

@@ -1,0 +1,2 @@
+pub mod EditContentLemmas
+mod Worked

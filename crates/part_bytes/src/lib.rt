@@ -1,0 +1,12 @@
+//! The bytes of the parts that an edit makes are written on their pages.
+#![tactic(auto)]
+
+mod gathering;
+mod part;
+#[cfg(test)]
+mod tests;
+mod writing;
+
+pub use gathering::gather;
+pub use part::{WriteFail, write_part};
+pub use writing::write_on;

@@ -1,0 +1,147 @@
+//! A new part written on its pages.
+
+ghost use Rattle.std.specs.Prelude.{◌≡◌, ◌^◌, ◌<◌, ◌≤◌, [], ◌∷◌, length, map, sum, IsTrue};
+ghost use Rattle.std.specs.Prelude.{IsErr, OnOk, IfSome, Err};
+ghost use Rattle.std.specs.List.{AllByRecursion};
+ghost use Rattle.fault_count.specs.Counts.{HasCause};
+ghost use Rattle.tree_model.specs.Content.{content};
+ghost use Rattle.tree_model.specs.Tree.{page_count};
+ghost use Rattle.layout_model.specs.Layout.{segments_on};
+ghost use Rattle.edit_parts.specs.declared.piece.Piece.TheVariants.{Given};
+ghost use Rattle.edit_parts.specs.Pieces.{pieces_bytes, pieces_content};
+ghost use Rattle.span_store.specs.Held.{AllSized, bytes_on};
+ghost use Rattle.part_bytes.specs.Gathering.{CanGather, pieces_reads};
+ghost use Rattle.part_bytes.specs.Parts.{ReadsThenWrites};
+ghost use Rattle.part_bytes.specs.Runs.{HoldsRuns, StandOn, ChangesRuns};
+
+use crate::gathering::gather;
+use crate::writing::write_on;
+use edit_parts::{Piece, Pieces};
+use layout_model::Extent;
+use page_port::{DeviceFault, Port};
+use span_store::Holdings;
+use std::alloc::Global;
+
+/// Why a part wasn't written.
+#[derive(Clone, Copy, Debug, PartialEq, Eq)]
+pub enum WriteFail {
+    /// The device failed.
+    Fault,
+    /// There was no memory.
+    Memory,
+}
+
+/// Writes a new part on its runs of pages: its pieces are gathered, then written, each run full
+/// before the next one begins. A part that is one piece of the payload is written from there, and
+/// takes no memory. `scratch` is room for a page.
+///
+/// # Errors
+/// - `Fault`: the device failed, and the port's count of faults rose. Then the pages of the runs
+///   may hold anything.
+/// - `Memory`: there is no memory for the bytes. No page was read or written.
+pub fn write_part<P: Port>(
+    alloc: Global,
+    held: &mut Holdings<P::S>,
+    port: &mut P,
+    pieces: &Pieces,
+    payload: &[u8],
+    runs: &[Extent],
+    scratch: &mut [u8],
+) -> Result<(), WriteFail>
+    requires scratch { length scratch.old ≡ (P.meter port.old).page }
+    requires some { 0 < (P.meter port.old).page }
+    requires each { AllByRecursion (CanGather held.old (P.meter port.old).page
+        (length payload.now)) pieces.now }
+    requires fits { pieces_bytes pieces.now < 2 ^ 64 }
+    requires held { HoldsRuns held.old runs.now }
+    requires enough { page_count (P.meter port.old).page (pieces_bytes pieces.now)
+        ≤ sum (map (λ run. run.pages) runs.now) }
+    requires sized { AllSized P.S.tells (P.meter port.old).page held.old }
+    ensures bytes { OnOk result (IsTrue P.S.tells
+        → StandOn (bytes_on held.new) (P.meter port.old).page runs.now
+        (pieces_content (bytes_on held.old) (P.meter port.old).page payload.now pieces.now)) }
+    ensures content { OnOk result (IsTrue P.S.tells
+        → content (bytes_on held.new) (P.meter port.old).page
+        (segments_on (P.meter port.old).page (pieces_bytes pieces.now) runs.now)
+        ≡ pieces_content (bytes_on held.old) (P.meter port.old).page payload.now pieces.now) }
+    ensures others { ChangesRuns P.S.tells (P.meter port.old).page runs.now held.old held.new }
+    ensures moves { ReadsThenWrites (pieces_reads (P.meter port.old).page pieces.now)
+        (page_count (P.meter port.old).page (pieces_bytes pieces.now))
+        (P.meter port.old) (P.meter port.new) }
+    ensures cause { HasCause (P.meter port.old).faults (P.meter port.new).faults
+        (result ≡ Err WriteFail.Fault) }
+{
+    if let Some((from, bytes)) = one_given(pieces.as_slice()) {
+        let from = from as usize;
+        let part = &payload[from..from + bytes as usize];
+        return match write_on(held, port, runs, part, scratch) {
+            Ok(()) => Ok(()),
+            Err(_) => Err(WriteFail::Fault),
+        };
+    }
+    let Ok(mut part) = vec![in alloc; 0u8; pieces.bytes() as usize] else {
+        return Err(WriteFail::Memory);
+    };
+    match gather_and_write(
+        held,
+        port,
+        pieces.as_slice(),
+        payload,
+        &mut part,
+        runs,
+        scratch,
+    ) {
+        Ok(()) => Ok(()),
+        Err(_) => Err(WriteFail::Fault),
+    }
+}
+
+/// The bytes before the first of pieces that are one of the payload, and how many it has.
+fn one_given(pieces: &[Piece]) -> Option<(u64, u64)>
+    ensures { IfSome result (λ r. pieces.now ≡ Given r.0 r.1 ∷ []) }
+{
+    let (first, rest) = pieces.split_first()?;
+    if !rest.is_empty() {
+        return None;
+    }
+    match first {
+        Piece::Given { from, bytes } => Some((*from, *bytes)),
+        Piece::Old { .. } => None,
+    }
+}
+
+/// Gathers pieces in `part`, and writes it on its runs.
+fn gather_and_write<P: Port>(
+    held: &mut Holdings<P::S>,
+    port: &mut P,
+    pieces: &[Piece],
+    payload: &[u8],
+    part: &mut [u8],
+    runs: &[Extent],
+    scratch: &mut [u8],
+) -> Result<(), DeviceFault>
+    requires scratch { length scratch.old ≡ (P.meter port.old).page }
+    requires some { 0 < (P.meter port.old).page }
+    requires long { length part.old ≡ pieces_bytes pieces.now }
+    requires each { AllByRecursion (CanGather held.old (P.meter port.old).page
+        (length payload.now)) pieces.now }
+    requires held { HoldsRuns held.old runs.now }
+    requires enough { page_count (P.meter port.old).page (pieces_bytes pieces.now)
+        ≤ sum (map (λ run. run.pages) runs.now) }
+    requires sized { AllSized P.S.tells (P.meter port.old).page held.old }
+    ensures bytes { OnOk result (IsTrue P.S.tells
+        → StandOn (bytes_on held.new) (P.meter port.old).page runs.now
+        (pieces_content (bytes_on held.old) (P.meter port.old).page payload.now pieces.now)) }
+    ensures content { OnOk result (IsTrue P.S.tells
+        → content (bytes_on held.new) (P.meter port.old).page
+        (segments_on (P.meter port.old).page (pieces_bytes pieces.now) runs.now)
+        ≡ pieces_content (bytes_on held.old) (P.meter port.old).page payload.now pieces.now) }
+    ensures others { ChangesRuns P.S.tells (P.meter port.old).page runs.now held.old held.new }
+    ensures moves { ReadsThenWrites (pieces_reads (P.meter port.old).page pieces.now)
+        (page_count (P.meter port.old).page (pieces_bytes pieces.now))
+        (P.meter port.old) (P.meter port.new) }
+    ensures cause { HasCause (P.meter port.old).faults (P.meter port.new).faults (IsErr result) }
+{
+    gather(held, port, pieces, payload, part, scratch)?;
+    write_on(held, port, runs, part, scratch)
+}
