@@ -8,10 +8,10 @@ use Rattle.std.proofs.lemmas.List.Concat.{flat_map-cons}
 use Rattle.std.specs.Prelude.{sum}
 use Rattle.tree_model.specs.Content.{content, segment_bytes}
 use Rattle.tree_model.specs.Tree.{Pages, page_count}
-use Rattle.tree_model.proofs.PageCountLaws.{count-holds, count-enough, count-behind, count-full, count-none}
+use Rattle.tree_model.proofs.PageCountLaws.{count-holds, count-behind, count-full, count-none}
 use Rattle.layout_model.specs.declared.extent.Extent.{Extent}
 use Rattle.layout_model.specs.Layout.{segments_on}
-use Rattle.moment_model.specs.Version.{covers, uses}
+use Rattle.moment_model.specs.Version.{covers}
 use Rattle.span_store.proofs.Runs.{run_bytes-same}
 use Rattle.seg_bytes.specs.Written.{StandFrom}
 use Rattle.part_bytes.specs.Runs.{StandOn}

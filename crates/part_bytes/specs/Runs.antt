@@ -1,7 +1,8 @@
 -- Bytes on runs of pages, and what a write on them leaves.
-use Rattle.std.specs.Prelude.{◌≡◌, ℕ, ◌*◌, ◌≤◌, Bool, List, [], ◌∷◌, length, take, drop}
+use Rattle.std.specs.Prelude.{◌≡◌, ℕ, ◌*◌, ◌<◌, ◌≤◌, Bool, List, [], ◌∷◌, length, take, drop}
+use Rattle.std.specs.Prelude.{map, sum}
 use Rattle.std.specs.List.{AllByRecursion}
-use Rattle.tree_model.specs.Tree.{Pages}
+use Rattle.tree_model.specs.Tree.{Pages, page_count}
 use Rattle.layout_model.specs.declared.extent.Extent.{Extent}
 use Rattle.moment_model.specs.Version.{uses}
 use Rattle.span_store.specs.Held.{AllSized, Held, HoldsRun, page_at, has, begins}
@@ -11,6 +12,16 @@ use Rattle.seg_bytes.specs.Written.{StandFrom}
 pub record HoldsRuns (held : Held) (runs : List Extent) : Type 0 where
   pub each : AllByRecursion (λ run. HoldsRun held run.page run.pages) runs
   pub once : (q : ℕ) → uses q runs ≤ 1
+
+-- So many bytes can be written on the runs, by room for a page: the runs are held, and have pages
+-- enough.
+pub record CanWriteOn (told : Bool) (size room bytes : ℕ) (runs : List Extent)
+    (now : Held) : Type 0 where
+  pub scratch : room ≡ size
+  pub some : 0 < size
+  pub held : HoldsRuns now runs
+  pub enough : page_count size bytes ≤ sum (map (λ run. run.pages) runs)
+  pub sized : AllSized told size now
 
 -- the bytes stand on the runs, each full before the next one begins, with zeros behind the last
 -- byte to the end of its page

@@ -12,7 +12,7 @@ ghost use Rattle.edit_parts.specs.Pieces.{pieces_bytes, pieces_content};
 ghost use Rattle.span_store.specs.Held.{AllSized, bytes_on};
 ghost use Rattle.part_bytes.specs.Gathering.{CanGather, pieces_reads};
 ghost use Rattle.part_bytes.specs.Parts.{ReadsThenWrites};
-ghost use Rattle.part_bytes.specs.Runs.{HoldsRuns, StandOn, ChangesRuns};
+ghost use Rattle.part_bytes.specs.Runs.{CanWriteOn, StandOn, ChangesRuns};
 
 use crate::gathering::gather;
 use crate::writing::write_on;
@@ -48,15 +48,11 @@ pub fn write_part<P: Port>(
     runs: &[Extent],
     scratch: &mut [u8],
 ) -> Result<(), WriteFail>
-    requires scratch { length scratch.old ≡ (P.meter port.old).page }
-    requires some { 0 < (P.meter port.old).page }
+    requires can { CanWriteOn P.S.tells (P.meter port.old).page (length scratch.old)
+        (pieces_bytes pieces.now) runs.now held.old }
     requires each { AllByRecursion (CanGather held.old (P.meter port.old).page
         (length payload.now)) pieces.now }
     requires fits { pieces_bytes pieces.now < 2 ^ 64 }
-    requires held { HoldsRuns held.old runs.now }
-    requires enough { page_count (P.meter port.old).page (pieces_bytes pieces.now)
-        ≤ sum (map (λ run. run.pages) runs.now) }
-    requires sized { AllSized P.S.tells (P.meter port.old).page held.old }
     ensures bytes { OnOk result (IsTrue P.S.tells
         → StandOn (bytes_on held.new) (P.meter port.old).page runs.now
         (pieces_content (bytes_on held.old) (P.meter port.old).page payload.now pieces.now)) }
@@ -120,15 +116,11 @@ fn gather_and_write<P: Port>(
     runs: &[Extent],
     scratch: &mut [u8],
 ) -> Result<(), DeviceFault>
-    requires scratch { length scratch.old ≡ (P.meter port.old).page }
-    requires some { 0 < (P.meter port.old).page }
+    requires can { CanWriteOn P.S.tells (P.meter port.old).page (length scratch.old)
+        (pieces_bytes pieces.now) runs.now held.old }
     requires long { length part.old ≡ pieces_bytes pieces.now }
     requires each { AllByRecursion (CanGather held.old (P.meter port.old).page
         (length payload.now)) pieces.now }
-    requires held { HoldsRuns held.old runs.now }
-    requires enough { page_count (P.meter port.old).page (pieces_bytes pieces.now)
-        ≤ sum (map (λ run. run.pages) runs.now) }
-    requires sized { AllSized P.S.tells (P.meter port.old).page held.old }
     ensures bytes { OnOk result (IsTrue P.S.tells
         → StandOn (bytes_on held.new) (P.meter port.old).page runs.now
         (pieces_content (bytes_on held.old) (P.meter port.old).page payload.now pieces.now)) }

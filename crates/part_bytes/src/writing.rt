@@ -7,7 +7,7 @@ ghost use Rattle.tree_model.specs.Content.{content};
 ghost use Rattle.tree_model.specs.Tree.{page_count};
 ghost use Rattle.layout_model.specs.Layout.{segments_on};
 ghost use Rattle.span_store.specs.Held.{AllSized, bytes_on};
-ghost use Rattle.part_bytes.specs.Runs.{HoldsRuns, StandOn, ChangesRuns};
+ghost use Rattle.part_bytes.specs.Runs.{CanWriteOn, StandOn, ChangesRuns};
 
 use layout_model::Extent;
 use page_port::{DeviceFault, Port};
@@ -27,12 +27,8 @@ pub fn write_on<P: Port>(
     bytes: &[u8],
     scratch: &mut [u8],
 ) -> Result<(), DeviceFault>
-    requires scratch { length scratch.old ≡ (P.meter port.old).page }
-    requires some { 0 < (P.meter port.old).page }
-    requires held { HoldsRuns held.old runs.now }
-    requires enough { page_count (P.meter port.old).page (length bytes.now)
-        ≤ sum (map (λ run. run.pages) runs.now) }
-    requires sized { AllSized P.S.tells (P.meter port.old).page held.old }
+    requires can { CanWriteOn P.S.tells (P.meter port.old).page (length scratch.old)
+        (length bytes.now) runs.now held.old }
     ensures bytes { OnOk result (IsTrue P.S.tells
         → StandOn (bytes_on held.new) (P.meter port.old).page runs.now bytes.now) }
     ensures content { OnOk result (IsTrue P.S.tells

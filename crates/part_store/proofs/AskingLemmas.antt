@@ -1,21 +1,20 @@
 -- Parts asked for one after another: none yet, one more, a refusal, and all.
-use Rattle.std.proofs.Common.{◌≡◌, ℕ, ◌+◌, ◌*◌, ◌<◌, ◌≤◌, Bool, List, [], ◌∷◌, ◌++◌, length, map, Option, Some, None}
+use Rattle.std.proofs.Common.{◌≡◌, ℕ, ◌+◌, Bool, List, [], ◌∷◌, ◌++◌, length, map, Option}
 use Rattle.std.proofs.Common.{refl, sym, ap, ◌∙◌, subst, arith}
 use Rattle.std.proofs.lemmas.List.{append-nil, map-append, length-append, length-map}
-use Rattle.std.specs.Prelude.{sum}
 use Rattle.geometry_model.specs.Numbers.{Numbers}
 use Rattle.layout_model.specs.declared.request.Request.{Request}
 use Rattle.layout_model.specs.declared.extent.Extent.{Extent}
-use Rattle.layout_model.specs.Grants.{Got, Refused, all_runs}
+use Rattle.layout_model.specs.Grants.{Got, all_runs}
 use Rattle.space_directory.specs.SpaceView.{SpaceView}
-use Rattle.superdirectory.specs.Trace.{SpaceEvent, IsLow}
+use Rattle.superdirectory.specs.Trace.{SpaceEvent}
 use Rattle.superdirectory.specs.Rest.{Frame, Rest, count}
 use Rattle.superdirectory.specs.Grants.{AreTold, AreRunsIn, IsGivenAll, free_sets}
-use Rattle.superdirectory.specs.Parts.{IsLaid, IsTakenAll, AnswersHalved, extents}
+use Rattle.superdirectory.specs.Parts.{IsLaid, IsTakenAll, extents}
 use Rattle.superdirectory.proofs.Traces.{low_left, low_right}
 use Rattle.superdirectory.proofs.Halves.{taken_length, taken_append, runs_append, restored}
-use Rattle.part_store.specs.Asking.{rows, put, AreOfAll, AreAsked, AreAskedOf, AddsPart, RefusesPart, IsStopped}
-use Rattle.part_store.specs.Asking.{IsRefusedFor, AreRuns, AreRunsOf, LeavesTold, IsLowAt}
+use Rattle.part_store.specs.Asking.{rows, AreOfAll, AreAsked, AddsPart, RefusesPart, IsStopped}
+use Rattle.part_store.specs.Asking.{AreRuns, AreRunsOf, LeavesTold, IsLowAt}
 use Rattle.part_store.proofs.RowLemmas.{rows_more, sum_more, put_none, put_more, put_refused}
 
 -- nothing was asked for yet

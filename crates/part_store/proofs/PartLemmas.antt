@@ -1,12 +1,11 @@
 -- One part asked for: its wish was granted, or its need, or neither.
-use Rattle.std.proofs.Common.{inl, inr, ◌≡◌, ℕ, suc, zero, ◌+◌, ◌-◌, ◌*◌, ◌/◌, ◌<◌, ◌≤◌, min, Bool, true, false, List, [], ◌∷◌}
-use Rattle.std.proofs.Common.{◌++◌, length, map, take, drop, nat_lt, Option, Some, None, refl, sym, ap, ◌∙◌, subst, arith}
+use Rattle.std.proofs.Common.{inl, inr, ◌≡◌, ℕ, suc, zero, ◌+◌, ◌*◌, ◌/◌, ◌≤◌, min, Bool, true, false, List, [], ◌∷◌}
+use Rattle.std.proofs.Common.{◌++◌, length, map, drop, nat_lt, Option, Some, None, refl, sym, ap, ◌∙◌, subst, arith}
 use Rattle.std.proofs.lemmas.Bool.{cases_lt, lt-ltb}
 use Rattle.std.proofs.Math.Nat.{mul-le-mul_left}
 use Rattle.std.proofs.lemmas.List.{take-append-drop, drop_at}
-use Rattle.std.specs.Prelude.{sum, sum_by, Result, Ok, Err, OnOk, IfErr, option_map}
+use Rattle.std.specs.Prelude.{Result, Ok, Err, OnOk, IfErr, option_map}
 use Rattle.std.specs.Result.{result_err}
-use Rattle.std.specs.List.{AllByRecursion}
 use Rattle.geometry_model.specs.Numbers.{Numbers}
 use Rattle.layout_model.specs.declared.request.Request.{Request}
 use Rattle.layout_model.specs.declared.extent.Extent.{Extent}
@@ -23,7 +22,7 @@ use Rattle.superdirectory.proofs.Traces.{low_left}
 use Rattle.superdirectory.proofs.Spots.{exact_none}
 use Rattle.superdirectory.proofs.GrantLaws.{run_none, around_all}
 use Rattle.superdirectory.proofs.Halves.{Grants, adds_placed, few}
-use Rattle.part_store.specs.Asking.{IsAskable, AreRowsOf, AddsPart, RefusesPart, LeavesTold, IsLowAt}
+use Rattle.part_store.specs.Asking.{AddsPart, RefusesPart, IsLowAt}
 use Rattle.part_store.proofs.RowLemmas.{sum_of_sizes, each_size}
 
 abbrev asked_for : ℕ → ℕ → Request

@@ -120,7 +120,8 @@ pub record AreAsked {A : Type 0} (space first : A → ℕ) (pages : A → List (
       AreOfAll threshold requests (rows counts (map (λ run. length (pages run)) runs) ++ more)
   pub told : (numbers : Numbers) (views : List SpaceView) → AreTold old views →
       length views ≡ count old → AreAskedOf space first pages views
-      (IsLaid numbers old.frame.firsts) (all_runs numbers start threshold requests (free_sets views))
+      (IsLaid numbers old.frame.firsts)
+      (all_runs numbers start threshold requests (free_sets views))
       numbers start threshold left counts runs new
 
 -- p pages were refused that weren't cut, and the rule for all parts refuses them; these runs were
@@ -162,4 +163,13 @@ pub record RefusesPart {A : Type 0} (start threshold p : ℕ) (request : Request
 -- how many pieces all parts have at most
 abbrev pub most_pieces : ℕ → List Request → ℕ
 most_pieces threshold [] = 0
-most_pieces threshold (request ∷ requests) = request.need / threshold + 1 + most_pieces threshold requests
+most_pieces threshold (request ∷ requests) =
+    request.need / threshold + 1 + most_pieces threshold requests
+
+-- nothing is granted yet, and there is room for all that can be, and for a count of each part
+pub record HasRoomToAsk {A : Type 0} (threshold : ℕ) (requests : List Request) (segments : List A)
+    (counts : List ℕ) (room places : ℕ) : Type 0 where
+  pub unfilled : segments ≡ []
+  pub uncounted : counts ≡ []
+  pub pieces : most_pieces threshold requests ≤ room
+  pub parts : length requests ≤ places

@@ -1,7 +1,7 @@
 //! Asking for the pages of parts: for each the wish as one piece, or else the need, in halves where
 //! it must be.
 
-ghost use Rattle.std.specs.Prelude.{◌≡◌, ℕ, ◌+◌, ◌/◌, ◌<◌, ◌≤◌, List, [], length, IfOk};
+ghost use Rattle.std.specs.Prelude.{◌≡◌, ℕ, ◌+◌, ◌/◌, ◌<◌, ◌≤◌, List, [], ◌∷◌, length, IfOk};
 ghost use Rattle.std.specs.Prelude.{IfErr, IfSome, OnOk, Some, None, option_map, vec_len};
 ghost use Rattle.std.specs.Prelude.{vec_capacity};
 ghost use Rattle.std.specs.Result.{result_err};
@@ -13,7 +13,8 @@ ghost use Rattle.superdirectory.specs.Rest.{count};
 ghost use Rattle.superdirectory.specs.Grants.{AreTold, KeepsFrame, free_sets};
 ghost use Rattle.superdirectory.specs.Parts.{IsLaid};
 ghost use Rattle.part_store.specs.Asking.{IsAskable, MayAsk, AreRuns, AreRunsOf, LeavesTold};
-ghost use Rattle.part_store.specs.Asking.{IsRefusedFor, IsLowAt, AddsPart, RefusesPart, most_pieces};
+ghost use Rattle.part_store.specs.Asking.{IsRefusedFor, IsLowAt, AddsPart, RefusesPart};
+ghost use Rattle.part_store.specs.Asking.{most_pieces, HasRoomToAsk};
 ghost use Rattle.part_store.specs.Asking.{AreAsked, IsStopped, pages_refused};
 
 use crate::granted::{AskFail, Granted};
@@ -80,10 +81,8 @@ fn prepared<S: Span>(
     requests: &[Request],
 ) -> Result<Granted<S>, AllocError>
     requires threshold { 1 ≤ threshold }
-    ensures segments { IfOk result (λ g. g.segments.items ≡ []) }
-    ensures counts { IfOk result (λ g. g.counts.items ≡ []) }
-    ensures room { IfOk result (λ g. most_pieces threshold requests.now ≤ vec_capacity g.segments) }
-    ensures places { IfOk result (λ g. length requests.now ≤ vec_capacity g.counts) }
+    ensures { IfOk result (λ g. HasRoomToAsk threshold requests.now g.segments.items
+        g.counts.items (vec_capacity g.segments) (vec_capacity g.counts)) }
 {
     let Some(room) = room_for(threshold, requests) else {
         return Err(AllocError);
@@ -120,10 +119,9 @@ fn ask_all<S: Span, L: Latches<S = S>>(
 ) -> Result<(), NoSpace>
     requires from { MayAsk (L.rest latches.old) start requests.now }
     requires threshold { 1 ≤ threshold }
-    requires segments { granted.old.segments.items ≡ [] }
-    requires counts { granted.old.counts.items ≡ [] }
-    requires room { most_pieces threshold requests.now ≤ vec_capacity granted.old.segments }
-    requires places { length requests.now ≤ vec_capacity granted.old.counts }
+    requires prepared { HasRoomToAsk threshold requests.now granted.old.segments.items
+        granted.old.counts.items (vec_capacity granted.old.segments)
+        (vec_capacity granted.old.counts) }
     ensures rest { KeepsFrame (L.rest latches.old) (L.rest latches.new) }
     ensures asked { OnOk result (AreAsked (λ s. s.space) (λ s. S.start s.span)
         (λ s. S.contents s.span) S.tells start threshold requests.now [] (L.rest latches.old)
@@ -163,9 +161,7 @@ fn ask_part<S: Span, L: Latches<S = S>>(
     request: Request,
     into: &mut Vec<Segment<S>>,
 ) -> Result<(), NoSpace>
-    requires there { start < count (L.rest latches.old) }
-    requires none { (L.rest latches.old).entered ≡ None }
-    requires part { IsAskable (L.rest latches.old).frame.pages request }
+    requires from { MayAsk (L.rest latches.old) start (request ∷ []) }
     requires threshold { 1 ≤ threshold }
     requires room { vec_len into.old + request.need / threshold + 1 ≤ vec_capacity into.old }
     ensures rest { KeepsFrame (L.rest latches.old) (L.rest latches.new) }

@@ -1,5 +1,5 @@
 -- Segments whose pages are held, and how many of these pages a row of bytes touches.
-use Rattle.std.specs.Prelude.{ℕ, ◌+◌, ◌-◌, ◌%◌, ◌^◌, ◌<◌, IsTrue, List, [], ◌∷◌, min, nat_eq}
+use Rattle.std.specs.Prelude.{◌≡◌, ℕ, ◌+◌, ◌-◌, ◌%◌, ◌^◌, ◌<◌, IsTrue, List, [], ◌∷◌, min, nat_eq}
 use Rattle.std.specs.Prelude.{if◌then◌else◌}
 use Rattle.std.specs.List.{AllByRecursion}
 use Rattle.tree_model.specs.declared.entry.Pair.{Pair}
@@ -25,6 +25,11 @@ pub record HasBytes (held : Held) (size first bytes : ℕ) : Type 0 where
 pub record HasSegment (held : Held) (size : ℕ) (p : Pair) : Type 0 where
   pub run : HoldsBytes held size p.page p.bytes
   pub numbers : (q : ℕ) → IsTrue (has held q) → q < 2 ^ 32 - 1
+
+-- there is room for a page, and a page has bytes
+pub record HasScratch (size room : ℕ) : Type 0 where
+  pub page : room ≡ size
+  pub some : 0 < size
 
 -- the pages that have one of `count` bytes of a row of pages, from byte `skip` on
 abbrev pub pages_touched : ℕ → ℕ → ℕ → ℕ

@@ -6,7 +6,8 @@ ghost use Rattle.fault_count.specs.Counts.{HasCause, Reads};
 ghost use Rattle.tree_model.specs.Content.{content, segment_bytes};
 ghost use Rattle.tree_model.specs.Range.{Covers, pairs_of, start_of};
 ghost use Rattle.span_store.specs.Held.{AllSized, bytes_on};
-ghost use Rattle.seg_bytes.specs.Segments.{HasSegment, HoldsSegments, pages_touched, touched};
+ghost use Rattle.seg_bytes.specs.Segments.{HasScratch, HasSegment, HoldsSegments, pages_touched};
+ghost use Rattle.seg_bytes.specs.Segments.{touched};
 
 use crate::run::read_from;
 use page_port::{DeviceFault, Port};
@@ -90,8 +91,7 @@ fn read_here<P: Port>(
     out: &mut [u8],
     scratch: &mut [u8],
 ) -> Result<(), DeviceFault>
-    requires scratch { length scratch.old ≡ (P.meter port.old).page }
-    requires some { 0 < (P.meter port.old).page }
+    requires scratch { HasScratch (P.meter port.old).page (length scratch.old) }
     requires room { count ≤ length out.old }
     requires inside { 0 < count → skip + count ≤ pair.bytes }
     requires held { HasSegment held.now (P.meter port.old).page pair }

@@ -25,7 +25,7 @@ write_bytes-requires-clause-held g c =
     let long = stretch_long c.loop-run.from c.min-count.result (run.pages * size) bytes is in
     subst (λ (k : ℕ). HoldsRun c.loop-run.held run.page (page_count (g.P.Port.meter c.loop-run.port).page k)) (sym long)
     (turn_held g.P.S.Span.tells size runs (drop i runs) (drop (i + 1) runs) run bytes c.loop-run.from c.min-count.result
-    c.args.held.now c.loop-run.held (g.P.Port.meter c.args.port.now) (g.P.Port.meter c.loop-run.port) c.requires.some
+    c.args.held.now c.loop-run.held (g.P.Port.meter c.args.port.now) (g.P.Port.meter c.loop-run.port) c.requires.can.some
     (at_drop_more (λ (l : List Extent). l) runs i none c.loop-run-test.true) is c.loop-run.invariant)
 
 pub returns-in_err-write_bytes-clause-others : goal.returns-in_err-write_bytes-clause-others
@@ -42,7 +42,7 @@ returns-in_err-write_bytes-clause-others g c =
     (writing_failed g.P.S.Span.tells size runs (drop i runs) (drop (i + 1) runs) run bytes
     (take (from + count - from) (drop from bytes)) from count
     c.args.held.now c.loop-run.held c.write_bytes.new.held (g.P.Port.meter c.args.port.now) (g.P.Port.meter c.loop-run.port)
-    (g.P.Port.meter c.write_bytes.new.port) c.requires.some
+    (g.P.Port.meter c.write_bytes.new.port) c.requires.can.some
     (at_drop_more (λ (l : List Extent). l) runs i none c.loop-run-test.true) is (stretch_is from count bytes) c.loop-run.invariant
     (record { alone = c.in_err-write_bytes.ensures.others; writes = c.in_err-write_bytes.ensures.writes })).0
 
@@ -60,7 +60,7 @@ loop-run-preserved g c =
     writing_more g.P.S.Span.tells size runs (drop i runs) (drop (i + 1) runs) run bytes
     (take (from + count - from) (drop from bytes)) from count
     c.args.held.now c.loop-run.held c.write_bytes.new.held (g.P.Port.meter c.args.port.now) (g.P.Port.meter c.loop-run.port)
-    (g.P.Port.meter c.write_bytes.new.port) c.requires.some
+    (g.P.Port.meter c.write_bytes.new.port) c.requires.can.some
     (at_drop_more (λ (l : List Extent). l) runs i none c.loop-run-test.true) is (stretch_is from count bytes) c.loop-run.invariant
     c.in_ok-write_bytes.ensures.bytes
     (record { alone = c.in_ok-write_bytes.ensures.others; writes = c.in_ok-write_bytes.ensures.writes })
@@ -72,6 +72,6 @@ returns-clause-content g c = λ told.
     let runs = c.args.runs.now in
     let w = c.loop-run.invariant in
     let none_left : drop c.loop-run.run-index runs ≡ [] = drop_all c.loop-run.run-index runs (omega arith) in
-    StandOn-content (bytes_on c.loop-run.held) size runs c.args.bytes.now c.requires.some c.requires.enough
+    StandOn-content (bytes_on c.loop-run.held) size runs c.args.bytes.now c.requires.can.some c.requires.can.enough
     (w.stands told (bytes_on c.loop-run.held) (λ q off. refl)
     (subst (λ (l : List Extent). StandOn (bytes_on c.loop-run.held) size l (drop c.loop-run.from c.args.bytes.now)) (sym none_left) tt))

@@ -1,5 +1,5 @@
 -- Each part is granted behind those before it, or refused.
-use Rattle.std.proofs.Common.{◌≡◌, ℕ, ◌+◌, ◌-◌, List, ◌∷◌, ◌++◌, length, drop, Option, Some, None, refl, sym, ap, ◌∙◌, subst, arith}
+use Rattle.std.proofs.Common.{◌≡◌, ℕ, ◌+◌, ◌-◌, ◌<◌, List, ◌∷◌, ◌++◌, length, drop, Option, Some, None, sym, ap, ◌∙◌, subst, arith}
 use Rattle.std.proofs.lemmas.List.{length-append, at_drop_more}
 use Rattle.std.proofs.lemmas.Result.{err_from_is_err_and}
 use Rattle.std.specs.Prelude.{Result, IfErr, option_map, get_or}
@@ -17,6 +17,20 @@ use Rattle.part_store.proofs.asking.ask_all.Goals as goal
 
 abbrev none : Request
 none = record { want = 0; need = 0 }
+
+pub ask_part-requires-clause-from : goal.ask_part-requires-clause-from
+ask_part-requires-clause-from g c =
+    let kept = c.loop-request.invariant in
+    let i = c.loop-request.request-index in
+    let requests = c.args.requests.now in
+    let left : drop i requests ≡ get_or requests i none ∷ drop (i + 1) requests =
+    at_drop_more (λ (l : List Request). l) requests i none c.loop-request-test.true in
+    let all = subst (AllByRecursion (IsAskable (g.L.Hints.rest c.args.latches.now).frame.pages)) left kept.each in
+    record {
+      there = subst (λ (f : Frame). c.args.start < length f.firsts) (sym kept.rest.frame) c.requires.from.there;
+      none = kept.rest.entered;
+      each = (subst (λ (f : Frame). IsAskable f.pages (get_or requests i none)) (sym kept.rest.frame) all.0, tt);
+    }
 
 pub returns-in_err-ask_part-clause-refused : goal.returns-in_err-ask_part-clause-refused
 returns-in_err-ask_part-clause-refused g c =

@@ -1,4 +1,4 @@
-use Rattle.std.proofs.Common.{◌≡◌, ℕ, ◌+◌, ◌≤◌, length, drop, None}
+use Rattle.std.proofs.Common.{◌+◌, ◌≤◌, length, drop, None}
 use Rattle.std.specs.Prelude.{vec_len, vec_capacity}
 use Rattle.std.specs.List.{AllByRecursion}
 use Rattle.superdirectory.specs.Trace.{Part}

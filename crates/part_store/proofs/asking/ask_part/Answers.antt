@@ -1,5 +1,5 @@
 -- The need alone, the wish, or the need after a refused wish.
-use Rattle.std.proofs.Common.{◌≡◌, ℕ, List, length, Option, Some, None, true, refl, sym, ap, ◌∙◌, subst, arith}
+use Rattle.std.proofs.Common.{◌≡◌, ℕ, length, true, refl, ap, subst, arith}
 use Rattle.std.specs.Prelude.{option_map, vec_len, vec_capacity}
 use Rattle.std.specs.Result.{result_err}
 use Rattle.block_model.specs.Place.{least_order}
@@ -19,8 +19,8 @@ returns-then-request-clause-added g c =
     need_granted (λ s. s.space) (λ s. g.S.Span.start s.span) (λ s. g.S.Span.contents s.span) g.S.Span.tells c.args.start
     c.args.threshold (vec_len c.args.into.now) (vec_capacity c.args.into.now) (vec_capacity c.grant_parts.new.into)
     c.args.request old old (g.L.Hints.rest c.grant_parts.new.latches) c.args.into.now.items c.grant_parts.new.into.items
-    c.grant_parts.result c.requires.part.some c.requires.threshold refl
-    (λ numbers views told same. rule_need numbers c.args.start c.args.threshold c.args.request old views c.requires.part.some
+    c.grant_parts.result c.requires.from.each.0.some c.requires.threshold refl
+    (λ numbers views told same. rule_need numbers c.args.start c.args.threshold c.args.request old views c.requires.from.each.0.some
     (omega (arith, c.if-request.true)) told) c.grant_parts.ensures.pieces c.grant_parts.ensures.exact
 
 pub returns-then-request-clause-refused : goal.returns-then-request-clause-refused
@@ -30,7 +30,7 @@ returns-then-request-clause-refused g c =
     c.args.threshold (vec_len c.args.into.now) (vec_capacity c.args.into.now) (vec_capacity c.grant_parts.new.into)
     c.args.request old old (g.L.Hints.rest c.grant_parts.new.latches) c.args.into.now.items c.grant_parts.new.into.items
     c.grant_parts.result refl
-    (λ numbers views told same. rule_need numbers c.args.start c.args.threshold c.args.request old views c.requires.part.some
+    (λ numbers views told same. rule_need numbers c.args.start c.args.threshold c.args.request old views c.requires.from.each.0.some
     (omega (arith, c.if-request.true)) told) c.grant_parts.ensures.refused c.grant_parts.ensures.exact
 
 pub returns-then-request-clause-low : goal.returns-then-request-clause-low
@@ -46,7 +46,7 @@ returns-in-Ok-clause-added g c =
     part_wish (λ s. s.space) (λ s. g.S.Span.start s.span) (λ s. g.S.Span.contents s.span) g.S.Span.tells c.args.start
     c.args.threshold c.args.request (g.L.Hints.rest c.args.latches.now) (g.L.Hints.rest c.grant.new.latches)
     c.args.into.now.items c.push_reserved.new.self.items c.in-Ok.segment
-    (omega (arith, c.requires.part.some, c.requires.part.wish)) c.in-Ok.ensures.segment c.in-Ok.ensures.exact
+    (omega (arith, c.requires.from.each.0.some, c.requires.from.each.0.wish)) c.in-Ok.ensures.segment c.in-Ok.ensures.exact
     c.push_reserved.ensures.items
 
 pub returns-in-Err-clause-added : goal.returns-in-Err-clause-added
@@ -56,7 +56,7 @@ returns-in-Err-clause-added g c =
     need_granted (λ s. s.space) (λ s. g.S.Span.start s.span) (λ s. g.S.Span.contents s.span) g.S.Span.tells c.args.start
     c.args.threshold (vec_len c.args.into.now) (vec_capacity c.args.into.now) (vec_capacity c.grant_parts-in-Err.new.into)
     c.args.request old middle (g.L.Hints.rest c.grant_parts-in-Err.new.latches) c.args.into.now.items
-    c.grant_parts-in-Err.new.into.items c.grant_parts-in-Err.result c.requires.part.some c.requires.threshold
+    c.grant_parts-in-Err.new.into.items c.grant_parts-in-Err.result c.requires.from.each.0.some c.requires.threshold
     c.in-Err.ensures.rest.frame
     (λ numbers views told same. rule_wish numbers c.args.start c.args.threshold c.args.request old middle views same
     c.in-Err.ensures.exact told) c.grant_parts-in-Err.ensures.pieces c.grant_parts-in-Err.ensures.exact

@@ -1,11 +1,10 @@
 -- All parts, or none: what was granted before a refusal is given back.
-use Rattle.std.proofs.Common.{◌≡◌, ℕ, length, Some, sym, ap, subst}
-use Rattle.std.specs.Prelude.{Err, IfErr}
+use Rattle.std.proofs.Common.{Some, sym, subst}
 use Rattle.superdirectory.specs.Trace.{AreEnters}
 use Rattle.superdirectory.specs.Rest.{Frame, count}
 use Rattle.superdirectory.specs.Grants.{AreRunsIn}
 use Rattle.superdirectory.proofs.Traces.{part_then}
-use Rattle.part_store.specs.Asking.{IsLowAt, pages_refused}
+use Rattle.part_store.specs.Asking.{IsLowAt}
 use Rattle.part_store.proofs.AskingLemmas.{asked_runs, asked_exact, stopped_left, low_before}
 use Rattle.part_store.proofs.asking.ask_parts.Goals as goal
 

@@ -17,7 +17,7 @@ read_from-requires-clause-held g c =
     let none = c.if-count-eq0.false in
     let some : 0 < c.args.count = omega (arith, none) in
     HasBytes-less c.args.held.now (g.P.Port.meter c.args.port.now).page c.args.pair.page
-    (c.args.skip + c.args.count) c.args.pair.bytes c.requires.some
+    (c.args.skip + c.args.count) c.args.pair.bytes c.requires.scratch.some
     (HasBytes-end c.args.held.now (g.P.Port.meter c.args.port.now).page c.args.pair.page c.args.pair.bytes
     (2 ^ 32 - 1) (omega arith) c.requires.held.run c.requires.held.numbers (omega arith))
     (c.requires.inside some)
@@ -32,7 +32,7 @@ returns-clause-bytes g c =
     (page_count (g.P.Port.meter c.args.port.now).page (c.args.skip + c.args.count))))) told.
     read told ∙ segment_part (bytes_on c.args.held.now)
     (g.P.Port.meter c.args.port.now).page c.args.pair.page c.args.pair.bytes c.args.skip c.args.count
-    c.requires.some
+    c.requires.scratch.some
     (AreFull-held g.P.S.Span.tells (g.P.Port.meter c.args.port.now).page c.args.pair.page
     (page_count (g.P.Port.meter c.args.port.now).page c.args.pair.bytes) c.args.held.now c.requires.sized told
     c.requires.held.run)
