@@ -1,6 +1,6 @@
 -- What a cache keeps: nodes by their pages.
-use Rattle.std.specs.Prelude.{◌≡◌, ℕ, ◌+◌, ◌≤◌, ◌↔◌, ◌&&◌, Bool, false, List, length, Option}
-use Rattle.std.specs.Prelude.{IfSome, IsSome, IsTrue, nat_eq}
+use Rattle.std.specs.Prelude.{◌≡◌, ℕ, ◌+◌, ◌≤◌, ◌&&◌, Bool, List, length, Option}
+use Rattle.std.specs.Prelude.{IfSome, nat_eq}
 use Rattle.std.specs.Prelude.{nat_le, nat_lt}
 use Rattle.std.specs.Map.{lookup}
 use Rattle.lru.specs.LruCache.{lru_cache, put_entries}
@@ -19,13 +19,6 @@ kept c page = lookup (nat_eq page) c.entries
 pub record IsNodeOf (a b : Node) : Type 0 where
   pub level : a.level ≡ b.level
   pub pairs : a.pairs.items ≡ b.pairs.items
-
--- the node that may be there was copied over another, which else stays as it was; its room stays
-pub record IsCopied (copied : Bool) (o : Option Node) (before after : Node) : Type 0 where
-  pub found : IsTrue copied ↔ IsSome o
-  pub node : IfSome o (IsNodeOf after)
-  pub missed : copied ≡ false → after ≡ before
-  pub room : after.pairs.room ≡ before.pairs.room
 
 -- for each page the same node is kept, or none
 pub record KeepsSame (old new : KeptNodes) : Type 0 where

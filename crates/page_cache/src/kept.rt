@@ -1,13 +1,13 @@
 //! The cache: a map of bounded size from pages to nodes, over `lru`.
 
 ghost use Rattle.std.specs.Prelude.{◌≡◌, ◌≢◌, ℕ, ◌+◌, ◌<◌, ◌≤◌, ◌↔◌, ◌⊎◌, List, [], ◌∷◌, ◌++◌};
-ghost use Rattle.std.specs.Prelude.{length, not, IsTrue, IsSome, IfOk, IfSome, Some, None, false};
-ghost use Rattle.std.specs.Prelude.{nat_eq, if◌then◌else◌};
+ghost use Rattle.std.specs.Prelude.{length, not, IsTrue, IsSome, IfOk, IfSome, Some, None};
+ghost use Rattle.std.specs.Prelude.{nat_eq, option_copied, if◌then◌else◌};
 ghost use Rattle.std.specs.List.{filter};
 ghost use Rattle.std.specs.Map.{lookup, remove_entry};
 ghost use Rattle.lru.specs.LruCache.{promoted, put_entries};
 ghost use Rattle.node_codec.specs.declared.parsed.Node.{Node};
-ghost use Rattle.page_cache.specs.Kept.{kept, IsCopied, IsNodeOf, KeepsSame, IsPutIn, is_on_run};
+ghost use Rattle.page_cache.specs.Kept.{kept, IsNodeOf, KeepsSame, IsPutIn, is_on_run};
 
 use lru::LruCache;
 use node_codec::Node;
@@ -50,19 +50,22 @@ impl Cache {
         })
     }
 
-    /// Copies the node that is kept for a page, and says whether there is one. It takes no memory:
-    /// `into` has room for the node. What is kept is as before, and this node is the one used last.
-    pub fn get(&mut self, page: u32, into: &mut Node) -> bool
-        requires { IfSome (kept self.old page)
-            (λ node. length node.pairs.items ≤ into.old.pairs.room) }
+    /// Lends the node that is kept for a page, if there is one. Nothing is copied, and the order of
+    /// use stays.
+    pub fn peek(&self, page: u32) -> Option<&Node>
+        ensures node { option_copied result ≡ kept self.now page }
+    {
+        self.nodes.peek(&page)
+    }
+
+    /// Makes the node that is kept for a page the one used last, and says whether there is one. What
+    /// is kept is as before. It takes no memory.
+    pub fn promote(&mut self, page: u32) -> bool
         ensures found { IsTrue result ↔ IsSome (kept self.old page) }
-        ensures node { IfSome (kept self.old page) (λ node. IsNodeOf into.new node) }
-        ensures missed { result ≡ false → into.new ≡ into.old }
-        ensures room { into.new.pairs.room ≡ into.old.pairs.room }
         ensures same { KeepsSame self.old self.new }
         ensures used { self.new.entries ≡ promoted (nat_eq page) self.old.entries }
     {
-        find(&mut self.nodes, page, into)
+        move_first(&mut self.nodes, page)
     }
 
     /// Keeps a copy of a page's node, the one used last. Where there would be too many, the one
@@ -109,38 +112,16 @@ impl Cache {
     }
 }
 
-/// Copies the node that is stored for a page, which is then the one used last.
-fn find(nodes: &mut LruCache<u32, Node>, page: u32, into: &mut Node) -> bool
-    requires { IfSome (lookup (nat_eq page) nodes.old.entries)
-        (λ node. length node.pairs.items ≤ into.old.pairs.room) }
-    ensures copied { IsCopied result (lookup (nat_eq page) nodes.old.entries) into.old into.new }
+/// Makes the node that is stored for a page the one used last, and says whether there is one.
+fn move_first(nodes: &mut LruCache<u32, Node>, page: u32) -> bool
+    ensures found { IsTrue result ↔ IsSome (lookup (nat_eq page) nodes.old.entries) }
     ensures same { (q : ℕ) → lookup (nat_eq q) nodes.new.entries
         ≡ lookup (nat_eq q) nodes.old.entries }
     ensures used { nodes.new.entries ≡ promoted (nat_eq page) nodes.old.entries }
     ensures count { length nodes.new.entries ≡ length nodes.old.entries }
     ensures capacity { nodes.new.cap ≡ nodes.old.cap }
 {
-    nodes.promote(&page);
-    copy_of(nodes, page, into)
-}
-
-/// Copies the node that is stored for a page.
-fn copy_of(nodes: &LruCache<u32, Node>, page: u32, into: &mut Node) -> bool
-    requires { IfSome (lookup (nat_eq page) nodes.now.entries)
-        (λ node. length node.pairs.items ≤ into.old.pairs.room) }
-    ensures found { IsTrue result ↔ IsSome (lookup (nat_eq page) nodes.now.entries) }
-    ensures node { IfSome (lookup (nat_eq page) nodes.now.entries)
-        (λ node. IsNodeOf into.new node) }
-    ensures missed { result ≡ false → into.new ≡ into.old }
-    ensures room { into.new.pairs.room ≡ into.old.pairs.room }
-{
-    match nodes.peek(&page) {
-        Some(node) => {
-            into.copy_from(node);
-            true
-        }
-        None => false,
-    }
+    nodes.promote(&page)
 }
 
 /// Stores a page's node, and drops the one used longest ago where there would be too many. Where

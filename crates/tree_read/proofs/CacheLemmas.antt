@@ -22,13 +22,12 @@ use Rattle.span_store.specs.Held.{Held, bytes_on}
 use Rattle.tree_read.proofs.TreeLemmas.{found, length-found}
 use Rattle.tree_read.proofs.LevelLemmas.{AreTrees-below, below-each, found-below, length-nodes, root_pair}
 
--- a copy of a node that is kept stands on its page where the kept one does
-pub kept_node : (page : List ℕ) (o : Option Node) (n : Node) → IfSome o (λ k. NodeBytes page k.level k.pairs.items)
-    → IfSome o (IsNodeOf n) → IsSome o → NodeBytes page n.level n.pairs.items
-kept_node page None n right same held = absurd (false≢true held)
-kept_node page (Some k) n right same held =
-    subst (λ (level : ℕ). NodeBytes page level n.pairs.items) (sym same.level)
-    (subst (λ (pairs : List Pair). NodeBytes page k.level pairs) (sym same.pairs) right)
+-- a node that is kept stands on its page where what is kept does
+pub kept_node : (page : List ℕ) (o : Option Node) (n : Node) → IfSome o (λ k. NodeBytes page k.level k.pairs.items) → Some n ≡ o
+    → NodeBytes page n.level n.pairs.items
+kept_node page o n right is =
+    let P : Option Node → Type 0 = λ k. IfSome k (λ m. NodeBytes page m.level m.pairs.items) in
+    subst P (sym is) right
 
 -- the node on a page is the one that is named
 pub named_node : (at : Pages) (page level bytes : ℕ) (n : Node) → HasNode at page level 0 bytes

@@ -1,3 +1,3 @@
 pub mod Cost
-pub mod Scratch
+pub mod Loaded
 pub mod Search

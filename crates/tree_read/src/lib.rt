@@ -10,7 +10,6 @@ mod failure;
 mod load;
 mod page;
 mod range;
-mod scratch;
 mod search;
 mod start;
 #[cfg(test)]

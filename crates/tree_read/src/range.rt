@@ -7,15 +7,13 @@ ghost use Rattle.tree_model.specs.Node.{room_of};
 ghost use Rattle.tree_model.specs.Tree.{IsTree, entries_of};
 ghost use Rattle.tree_model.specs.Range.{in_range};
 ghost use Rattle.tree_read.specs.Cost.{AreKept, below, nodes_in_range};
-ghost use Rattle.tree_read.specs.Scratch.{IsPrepared};
 ghost use Rattle.span_store.specs.Held.{bytes_on};
 ghost use Rattle.tree_read.specs.Search.{AsksSearch, IsNamed, Reaches, Searches, Visits};
 ghost use Rattle.tree_read.specs.Search.{top as top_of};
 
 use crate::children::push_children;
 use crate::failure::TreeFail;
-use crate::load::load;
-use crate::scratch::Scratch;
+use crate::load::{load, pairs_of};
 use crate::start::root_pair;
 use node_codec::Placed;
 use page_cache::Cache;
@@ -60,7 +58,6 @@ pub fn entries<P: Port>(
     ensures cause { HasCause (P.meter port.old).faults (P.meter port.new).faults
         (result ≡ Err TreeFail.Fault) }
 {
-    let mut scratch = Scratch::new(alloc, port.page())?;
     let mut children = top(alloc, root, from, to)?;
     let mut level = root.height;
     while level > 0 {
@@ -73,7 +70,6 @@ pub fn entries<P: Port>(
             children.as_slice(),
             from,
             to,
-            &mut scratch,
         )?;
         level -= 1;
     }
@@ -104,16 +100,13 @@ fn level_below<P: Port>(
     nodes: &[Placed],
     from: u64,
     to: u64,
-    scratch: &mut Scratch,
 ) -> Result<Vec<Placed>, TreeFail>
     requires asks { AsksSearch P.S.tells (P.meter port.old).page held.now cache.old
         (AllByRecursion (IsNamed (bytes_on held.now) level) nodes.now) }
-    requires prepared { IsPrepared (P.meter port.old).page scratch.old }
     requires reaches { Reaches from to nodes.now }
     ensures told { IfOk result (λ v. IsTrue P.S.tells
         → v.items ≡ below (bytes_on held.now) from to nodes.now) }
     ensures reaches { IfOk result (λ v. Reaches from to v.items) }
-    ensures prepared { IsPrepared (P.meter port.old).page scratch.new }
     ensures visits { Visits P.S.tells (P.meter port.old).page (bytes_on held.now)
         (length nodes.now) (AreKept cache.old nodes.now) cache.old cache.new (P.meter port.old)
         (P.meter port.new) }
@@ -121,11 +114,11 @@ fn level_below<P: Port>(
         (result ≡ Err TreeFail.Fault) }
 {
     let mut children = Vec::new(alloc);
-    for node in nodes {
-        load(held, cache, port, level, node.pair, scratch)?;
+    for parent in nodes {
+        let node = load(alloc, held, cache, port, level, parent.pair)?;
         push_children(
-            scratch.node.pairs.as_slice(),
-            node.start,
+            pairs_of(&node, cache, parent.pair.page),
+            parent.start,
             from,
             to,
             &mut children,

@@ -11,8 +11,7 @@ ghost use Rattle.tree_read.specs.Search.{AsksSearch, HasByte, Visits, top};
 
 use crate::children::child_at;
 use crate::failure::TreeFail;
-use crate::load::load;
-use crate::scratch::Scratch;
+use crate::load::{load, pairs_of};
 use crate::start::root_pair;
 use node_codec::Placed;
 use page_cache::Cache;
@@ -56,12 +55,12 @@ pub fn find<P: Port>(
     ensures cause { HasCause (P.meter port.old).faults (P.meter port.new).faults
         (result ≡ Err TreeFail.Fault) }
 {
-    let mut scratch = Scratch::new(alloc, port.page())?;
     let mut child = root_pair(*root);
     let mut level = root.height;
     while level > 0 {
-        load(held, cache, port, level, child.pair, &mut scratch)?;
-        child = child_at(scratch.node.pairs.as_slice(), child.start, at);
+        let node = load(alloc, held, cache, port, level, child.pair)?;
+        child = child_at(pairs_of(&node, cache, child.pair.page), child.start, at);
+        drop(node);
         level -= 1;
     }
     Ok(child)

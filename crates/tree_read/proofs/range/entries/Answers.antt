@@ -7,7 +7,6 @@ use Rattle.tree_model.specs.Tree.{Pages}
 use Rattle.fault_count.specs.Counts.{Meter}
 use Rattle.page_cache.specs.Kept.{KeptNodes}
 use Rattle.tree_read.specs.Cost.{AreKept, below, nodes_in_range}
-use Rattle.tree_read.specs.Scratch.{IsPrepared}
 use Rattle.tree_read.specs.Search.{IsNamed, KeepsNodes, Reaches, Searches, top as top_of}
 use Rattle.tree_read.proofs.LevelLemmas.{IsLevel, IsLevel-top, IsLevel-below, IsLevel-named, IsLevel-entries, length-nodes-next}
 use Rattle.tree_read.proofs.CacheLemmas.{AreKept-below, AreKept-level, AreKept-same, AsksSearch-on, CostsNothing-none}
@@ -25,7 +24,6 @@ loop-level-init g c =
     let items : c.in_ok-children.children.items ≡ top_of root c.args.from c.args.to = c.in_ok-children.ensures.top in
     record {
       nodes = c.requires.asks.nodes;
-      prepared = subst (λ (n : ℕ). IsPrepared n c.in_ok-scratch.scratch) c.page.ensures c.in_ok-scratch.ensures;
       uses = Uses-none m;
       quiet = refl;
       reaches = c.in_ok-children.ensures.reaches;
@@ -47,9 +45,6 @@ none_yet : (told : Bool) (size : ℕ) (at : Pages) (by : List Placed) (cache : K
     → Searches told size at by cache cache m m
 none_yet told size at by cache m nodes =
     record { nodes = nodes; uses = Uses-none m; few = λ t. omega arith; cached = λ t held. refl }
-
-pub returns-in_err-scratch-clause-searches : goal.returns-in_err-scratch-clause-searches
-returns-in_err-scratch-clause-searches g c = none_yet _ _ _ _ _ _ c.requires.asks.nodes
 
 pub returns-in_err-children-clause-searches : goal.returns-in_err-children-clause-searches
 returns-in_err-children-clause-searches g c = none_yet _ _ _ _ _ _ c.requires.asks.nodes
@@ -114,7 +109,6 @@ loop-level-preserved g c =
     record {
       nodes = subst (λ (n : ℕ). KeepsNodes g.P.S.Span.tells n (bytes_on c.args.held.now) c.level_below.new.cache)
           page c.level_below.ensures.visits.nodes;
-      prepared = subst (λ (n : ℕ). IsPrepared n c.level_below.new.scratch) page c.level_below.ensures.prepared;
       uses = Uses-then (length c.as_slice.result.now) m0 m1 m2 c.loop-level.invariant.uses c.level_below.ensures.visits.reads;
       quiet = c.in_ok-children-2.ensures.cause.still (λ bad. absurd cc) ∙ c.loop-level.invariant.quiet;
       reaches = c.in_ok-children-2.ensures.reaches;

@@ -1,6 +1,5 @@
 use Rattle.std.proofs.Common.{◌≡◌, ◌+◌, ◌≤◌, IsTrue, length}
 use Rattle.tree_read.specs.Cost.{AreKept, CostsNothing, nodes_in_range}
-use Rattle.tree_read.specs.Scratch.{IsPrepared}
 use Rattle.tree_read.specs.Search.{KeepsNodes, Reaches, Uses, top as top_of}
 use Rattle.tree_read.proofs.LevelLemmas.{IsLevel}
 use Rattle.span_store.specs.Held.{bytes_on}
@@ -9,7 +8,6 @@ use Rattle.tree_read.proofs.range.entries.Given as goal
 abbrev pub invariant-loop-level : goal.invariant-loop-level
 invariant-loop-level g l = record {
   nodes : KeepsNodes g.P.S.Span.tells (g.P.Port.meter l.fn.port).page (bytes_on l.held) l.cache;
-  prepared : IsPrepared (g.P.Port.meter l.fn.port).page l.scratch;
   uses : Uses (g.P.Port.meter l.fn.port) (g.P.Port.meter l.port);
   quiet : (g.P.Port.meter l.port).faults ≡ (g.P.Port.meter l.fn.port).faults;
   reaches : Reaches l.from l.to l.children.items;

@@ -1,12 +1,10 @@
 -- At each level one pair has the byte, and below it stands the one that the definition has.
 use Rattle.std.proofs.Common.{◌≡◌, ℕ, suc, ◌+◌, ◌-◌, ◌/◌, Bool, [], ◌∷◌, refl, sym, ap, subst, ◌∙◌, arith}
-use Rattle.std.proofs.lemmas.Bool.{false≢true}
 use Rattle.tree_model.specs.declared.entry.Placed.{Placed}
 use Rattle.tree_model.specs.Node.{room_of}
 use Rattle.tree_model.specs.Tree.{Pages, bytes_of}
 use Rattle.fault_count.specs.Counts.{Meter}
 use Rattle.page_cache.specs.Kept.{KeptNodes}
-use Rattle.tree_read.specs.Scratch.{IsPrepared}
 use Rattle.tree_read.specs.Search.{KeepsNodes, Visits}
 use Rattle.tree_read.proofs.LevelLemmas.{IsLevel, IsLevel-find, IsLevel-named, IsLevel-one, one-inside, same_pair}
 use Rattle.tree_read.proofs.CacheLemmas.{AreKept-child, AreKept-level, AreKept-root, AsksSearch-on, CostsNothing-none}
@@ -21,15 +19,11 @@ none_yet : (told : Bool) (size : ℕ) (at : Pages) (n : ℕ) (F : Type 0) (cache
 none_yet told size at n F cache m nodes =
     record { nodes = nodes; reads = Reads-none n m; cached = λ f. CostsNothing-none cache m }
 
-pub returns-in_err-scratch-clause-visits : goal.returns-in_err-scratch-clause-visits
-returns-in_err-scratch-clause-visits g c = none_yet _ _ _ _ _ _ _ c.requires.asks.nodes
-
 pub loop-level-init : goal.loop-level-init
 loop-level-init g c =
     let root = c.args.root.now in
     let m = g.P.Port.meter c.args.port.now in
     record {
-      prepared = subst (λ (n : ℕ). IsPrepared n c.in_ok-scratch.scratch) c.page.ensures c.in_ok-scratch.ensures;
       down = omega arith;
       visits = none_yet _ _ _ _ _ _ _ c.requires.asks.nodes;
       quiet = refl;
@@ -48,19 +42,14 @@ loop-level-init g c =
           c.root_pair-child.result same held;
     }
 
-pub load-requires-clause-asks : goal.load-requires-clause-asks
-load-requires-clause-asks g c =
+pub load-requires : goal.load-requires
+load-requires g c =
     let root = c.args.root.now in
     let level = c.loop-level.level in
     let e : level ≡ suc (level - 1) = omega arith in
     AsksSearch-on _ _ _ _ _ _ c.loop-level.invariant.visits.reads.used.page c.requires.asks.pages c.loop-level.invariant.visits.nodes
     (λ t. (IsLevel-named (bytes_on c.args.held.now) c.args.at (c.args.at + 1) root.height root.page level (level - 1)
     (c.loop-level.child ∷ []) e (c.loop-level.invariant.told t)).0)
-
-pub load-requires-clause-prepared : goal.load-requires-clause-prepared
-load-requires-clause-prepared g c =
-    subst (λ (n : ℕ). IsPrepared n c.loop-level.scratch) (sym c.loop-level.invariant.visits.reads.used.page)
-    c.loop-level.invariant.prepared
 
 pub loop-level-preserved : goal.loop-level-preserved
 loop-level-preserved g c =
@@ -72,13 +61,12 @@ loop-level-preserved g c =
     let page = c.loop-level.invariant.visits.reads.used.page in
     let s = c.loop-level.child in
     let r = c.child_at-child.result in
-    let ps = c.as_slice.result.now in
+    let ps = c.pairs_of.result.now in
     let down = c.loop-level.invariant.down in
     let here = c.loop-level.invariant.here in
-    let sum : bytes_of ps ≡ s.pair.bytes = ap bytes_of c.as_slice.ensures ∙ c.in_ok-load.ensures.sum in
+    let sum : bytes_of ps ≡ s.pair.bytes = ap bytes_of c.pairs_of.ensures ∙ c.in_ok-node.ensures.sum in
     let inside = one-inside at s.start ps r c.child_at-child.ensures (omega arith) in
     record {
-      prepared = subst (λ (n : ℕ). IsPrepared n c.load.new.scratch) page c.load.ensures.prepared;
       down = omega arith;
       visits = Visits-then _ _ _ _ (root.height - level) 1 (root.height - (level - 1)) _ _ _ _ _ _ _ _
           c.loop-level.invariant.visits c.load.ensures.visits page
@@ -86,16 +74,16 @@ loop-level-preserved g c =
           (AreKept-level c.args.cache.now pages at (at + 1) level (level - 1) (s ∷ []) e
           (c.loop-level.invariant.left f.0 f.1)).0)
           (omega arith);
-      quiet = c.in_ok-load.ensures.cause.still false≢true ∙ c.loop-level.invariant.quiet;
+      quiet = c.in_ok-node.ensures.cause.still (λ bad. absurd cc) ∙ c.loop-level.invariant.quiet;
       here = inside;
       told = λ t. IsLevel-one pages at (at + 1) root.height root.page level (level - 1) s r ps e
-          (c.as_slice.ensures ∙ c.in_ok-load.ensures.told t) c.child_at-child.ensures (c.loop-level.invariant.told t);
-      left = λ t held. AreKept-child c.args.cache.now pages at level (level - 1) s r ps e (c.as_slice.ensures
-          ∙ c.in_ok-load.ensures.told t) c.child_at-child.ensures (c.loop-level.invariant.left t held);
+          (c.pairs_of.ensures ∙ c.in_ok-node.ensures.told t) c.child_at-child.ensures (c.loop-level.invariant.told t);
+      left = λ t held. AreKept-child c.args.cache.now pages at level (level - 1) s r ps e (c.pairs_of.ensures
+          ∙ c.in_ok-node.ensures.told t) c.child_at-child.ensures (c.loop-level.invariant.left t held);
     }
 
-pub returns-in_err-load-clause-visits : goal.returns-in_err-load-clause-visits
-returns-in_err-load-clause-visits g c =
+pub returns-in_err-node-clause-visits : goal.returns-in_err-node-clause-visits
+returns-in_err-node-clause-visits g c =
     let root = c.args.root.now in
     let level = c.loop-level.level in
     let e : level ≡ suc (level - 1) = omega arith in

@@ -1,6 +1,5 @@
 use Rattle.std.proofs.Common.{◌≡◌, ◌+◌, ◌-◌, ◌≤◌, IsTrue, [], ◌∷◌}
 use Rattle.tree_read.specs.Cost.{AreKept, nodes_in_range}
-use Rattle.tree_read.specs.Scratch.{IsPrepared}
 use Rattle.tree_read.specs.Search.{HasByte, Visits, top}
 use Rattle.tree_read.proofs.LevelLemmas.{IsLevel}
 use Rattle.span_store.specs.Held.{bytes_on}
@@ -8,7 +7,6 @@ use Rattle.tree_read.proofs.search.find.Given as goal
 
 abbrev pub invariant-loop-level : goal.invariant-loop-level
 invariant-loop-level g l = record {
-  prepared : IsPrepared (g.P.Port.meter l.fn.port).page l.scratch;
   down : l.level ≤ l.root.height;
   visits : Visits g.P.S.Span.tells (g.P.Port.meter l.fn.port).page (bytes_on l.held) (l.root.height - l.level)
       (IsTrue g.P.S.Span.tells
