@@ -1,4 +1,4 @@
-mod SpareLemmas
-mod PageTables
-mod PageLemmas
-mod KeptLemmas
+pub mod OwnLemmas
+pub mod PageTables
+pub mod PageLemmas
+pub mod KeptLemmas

@@ -1,8 +1,10 @@
 -- What becomes of the spaces, and of what the object shows, where a version takes a page, drops one, or an end comes.
-use Rattle.std.proofs.Common.{IfSome, Result, if◌then◌else◌, ◌≡◌, ℕ, ◌+◌, ◌<◌, Bool, true}
+use Rattle.std.proofs.Common.{IfOk, IfSome, Result, if◌then◌else◌, ◌≡◌, ℕ, ◌+◌, ◌<◌, Bool, true}
 use Rattle.std.proofs.Common.{false, not, ◌&&◌, ◌||◌, IsTrue, List, [], length, Option, Some, None, Ok, Err}
 use Rattle.std.proofs.Common.{refl, sym, ap, subst, arith, ◌∙◌, inl, inr, nat_eq, nat_lt, nat_le, is_some, is_none}
 use Rattle.std.proofs.lemmas.Bool.{and_parts, ltb-true, leb-true, cases_Bool}
+use Rattle.base_laws.proofs.OptionLaws.{none-unless}
+use Rattle.std.specs.Prelude.{option_map}
 use Rattle.eos_ops.specs.declared.edit.Edit.{Edit}
 use Rattle.eos_ops.specs.declared.edit.Edit.TheVariants.{Create, Destroy, Append, Insert, Delete, Replace}
 use Rattle.eos_ops.specs.declared.outcome.Outcome.{Outcome}
@@ -28,30 +30,33 @@ use Rattle.superdirectory.specs.Trace.{SpaceEvent, Part, AreEnters, IsEntered, I
 use Rattle.superdirectory.proofs.Traces.{part_none, part_then, part_as, enters_none, enters_more}
 use Rattle.object_body.specs.declared.fails.EditFail.{EditFail}
 use Rattle.object_body.specs.declared.fails.EditFail.TheVariants.{NoSpace, Fault, Memory}
-use Rattle.object_body.specs.Form.{Form, Contents, AreTied, settled_form, settled_contents, undone_form, undone_contents}
+use Rattle.object_body.specs.declared.fails.LookFail.{LookFail}
+use Rattle.object_body.specs.declared.fails.LookFail.TheVariants as look
+use Rattle.object_body.specs.Memory.{EditMayTakeMemory}
+use Rattle.object_body.specs.Form.{Form, Contents, AreTied, HaveLengths, settled_form, settled_contents, undone_form, undone_contents}
 use Rattle.object_body.specs.Lengths.{length_of}
 use Rattle.object_body.specs.Places.{IsStore, IsReady, AreHome, is_free_place, is_locked_place}
 use Rattle.object_body.specs.Moves.{MovesTold, locks}
-use Rattle.object_body.specs.Calls.{Stage, IsEdit, IsBodyEnd, IsExplained, AreLow, slot_in, pages_in}
+use Rattle.object_body.specs.Calls.{Stage, IsEdit, IsBodyEnd, IsBodyRead, IsWithin, IsExplained, AreLow, slot_in, pages_in}
 use Rattle.object_body.proofs.LengthLemmas.{outcome-by_length, length-edited}
 use Rattle.object_body.proofs.MoveLemmas.{same-moves, same-untouched}
-use Rattle.object_body.proofs.CallLemmas.{keeps-frame, used-not, cause-none, no-memory}
+use Rattle.object_body.proofs.CallLemmas.{keeps-frame, used-not, cause-none, no-memory, empty-read}
 use Rattle.object_body.proofs.TurnLemmas.{Turn, IsTurned, over_run, given_free, given_locked, granted_free}
 use Rattle.object_body.proofs.TurnLemmas.{locked_more, same_free, same_locked, IsGrantTurn, turned-given}
 use Rattle.object_body.proofs.TurnLemmas.{turned-locked, turned-unlocked, turned-not, turned-then, turned-moves}
 use Rattle.object_body.proofs.TurnLemmas.{turned-back, grant-turned, grant-answer, grant-refused}
-use Rattle.body_double.specs.Kind.{OwnPage, plain_if, HaveLengths, IsOwn}
-use Rattle.body_double.specs.Page.{PageView, working_page, page_tree, page_version, pages_form, pages_contents}
+use Rattle.body_double.specs.Page.{OwnPage, plain_if, IsOwn, is_create, PageView, working_page, page_tree, page_version}
+use Rattle.body_double.specs.Page.{pages_form, pages_contents}
 use Rattle.body_double.specs.Page.{page_form, page_contents, page_placed, lays_page}
 use Rattle.body_double.specs.Page.{Places, BeginApart, IsHolding, UsesPage, UsesDropped, giving, locking, unlocking}
 use Rattle.body_double.specs.Page.{IsGrantedPage, IsBackAgain, IsNotAsked}
-use Rattle.body_double.proofs.SpareLemmas.{covers-bit, spare_bit, own-run, RefusesOne, WritesNone, release-enters}
+use Rattle.body_double.proofs.OwnLemmas.{covers-bit, own_bit, own-run, RefusesOne, WritesNone, release-enters}
 use Rattle.body_double.proofs.PageTables.{free_bits, locked_bits, placed-none, placed-committed, placed-fresh}
-use Rattle.body_double.proofs.PageTables.{dropped-fresh, dropped-committed, dropped-none, settled-bits, undone-bits}
+use Rattle.body_double.proofs.PageTables.{dropped-fresh, dropped-committed, dropped-none, settled-bits, undone-bits, back-bits}
 
 -- ---- counts
 
-uses-page : (n : Numbers) (q : ℕ) (own : Option OwnPage) → version_uses n q (page_version own) ≡ count_true (spare_bit own q)
+uses-page : (n : Numbers) (q : ℕ) (own : Option OwnPage) → version_uses n q (page_version own) ≡ count_true (own_bit own q)
 uses-page n q None = refl
 uses-page n q (Some own) =
     let run : Extent = record { page = own.first; pages = 1 } in
@@ -100,42 +105,42 @@ locked-count false false false true l = refl
 locked-count false false false false l = refl
 
 free-pages : (n : Numbers) (q : ℕ) (f : Bool) (c w c2 w2 : Option OwnPage) →
-    free_after n q f (slot_pages c w) (slot_pages c2 w2) ≡ free_bits (spare_bit c q) (spare_bit w q) (spare_bit c2 q) (spare_bit w2 q) f
+    free_after n q f (slot_pages c w) (slot_pages c2 w2) ≡ free_bits (own_bit c q) (own_bit w q) (own_bit c2 q) (own_bit w2 q) f
 free-pages n q f c w c2 w2 =
     ap (λ (k : ℕ). nat_eq (k + (version_uses n q (page_version w2) + 0)) 0 &&
     (f || nat_lt 0 (either_uses n q (slot_pages c w)))) (uses-page n q c2)
-    ∙ (ap (λ (k : ℕ). nat_eq (count_true (spare_bit c2 q) + (k + 0)) 0 &&
+    ∙ (ap (λ (k : ℕ). nat_eq (count_true (own_bit c2 q) + (k + 0)) 0 &&
     (f || nat_lt 0 (either_uses n q (slot_pages c w)))) (uses-page n q w2)
-    ∙ (ap (λ (k : ℕ). nat_eq (count_true (spare_bit c2 q) + (count_true (spare_bit w2 q) + 0)) 0 &&
+    ∙ (ap (λ (k : ℕ). nat_eq (count_true (own_bit c2 q) + (count_true (own_bit w2 q) + 0)) 0 &&
     (f || nat_lt 0 (k + (version_uses n q (page_version w) + 0)))) (uses-page n q c)
-    ∙ (ap (λ (k : ℕ). nat_eq (count_true (spare_bit c2 q) + (count_true (spare_bit w2 q) + 0)) 0 &&
-    (f || nat_lt 0 (count_true (spare_bit c q) + (k + 0)))) (uses-page n q w)
-    ∙ free-count (spare_bit c q) (spare_bit w q) (spare_bit c2 q) (spare_bit w2 q) f)))
+    ∙ (ap (λ (k : ℕ). nat_eq (count_true (own_bit c2 q) + (count_true (own_bit w2 q) + 0)) 0 &&
+    (f || nat_lt 0 (count_true (own_bit c q) + (k + 0)))) (uses-page n q w)
+    ∙ free-count (own_bit c q) (own_bit w q) (own_bit c2 q) (own_bit w2 q) f)))
 
 either-pages : (n : Numbers) (q : ℕ) (c w : Option OwnPage) →
-    either_uses n q (slot_pages c w) ≡ count_true (spare_bit c q) + (count_true (spare_bit w q) + 0)
+    either_uses n q (slot_pages c w) ≡ count_true (own_bit c q) + (count_true (own_bit w q) + 0)
 either-pages n q c w =
     ap (λ (k : ℕ). k + (version_uses n q (page_version w) + 0)) (uses-page n q c)
-    ∙ ap (λ (k : ℕ). count_true (spare_bit c q) + (k + 0)) (uses-page n q w)
+    ∙ ap (λ (k : ℕ). count_true (own_bit c q) + (k + 0)) (uses-page n q w)
 
 locks-pages : (n : Numbers) (q : ℕ) (c w : Option OwnPage) →
-    locks n q (slot_pages c w) ≡ (nat_lt 0 (count_true (spare_bit c q)) && nat_eq (count_true (spare_bit w q) + 0)
+    locks n q (slot_pages c w) ≡ (nat_lt 0 (count_true (own_bit c q)) && nat_eq (count_true (own_bit w q) + 0)
     0)
 locks-pages n q c w =
     ap (λ (k : ℕ). nat_lt 0 k && nat_eq (version_uses n q (page_version w) + 0) 0) (uses-page n q c)
-    ∙ ap (λ (k : ℕ). nat_lt 0 (count_true (spare_bit c q)) && nat_eq (k + 0) 0) (uses-page n q w)
+    ∙ ap (λ (k : ℕ). nat_lt 0 (count_true (own_bit c q)) && nat_eq (k + 0) 0) (uses-page n q w)
 
 locked-pages : (n : Numbers) (q : ℕ) (l : Bool) (c w c2 w2 : Option OwnPage) →
-    locked_after n q l (slot_pages c w) (slot_pages c2 w2) ≡ locked_bits (spare_bit c q) (spare_bit w q) (spare_bit c2 q) (spare_bit w2 q) l
+    locked_after n q l (slot_pages c w) (slot_pages c2 w2) ≡ locked_bits (own_bit c q) (own_bit w q) (own_bit c2 q) (own_bit w2 q) l
 locked-pages n q l c w c2 w2 =
     ap (λ (b : Bool). b || (l && (nat_eq (either_uses n q (slot_pages c w)) 0 && nat_eq
     (either_uses n q (slot_pages c2 w2)) 0))) (locks-pages n q c2 w2)
-    ∙ (ap (λ (k : ℕ). (nat_lt 0 (count_true (spare_bit c2 q)) && nat_eq (count_true (spare_bit w2 q) + 0) 0) ||
+    ∙ (ap (λ (k : ℕ). (nat_lt 0 (count_true (own_bit c2 q)) && nat_eq (count_true (own_bit w2 q) + 0) 0) ||
     (l && (nat_eq k 0 && nat_eq (either_uses n q (slot_pages c2 w2)) 0))) (either-pages n q c w)
-    ∙ (ap (λ (k : ℕ). (nat_lt 0 (count_true (spare_bit c2 q)) && nat_eq (count_true (spare_bit w2 q) + 0) 0) ||
-    (l && (nat_eq (count_true (spare_bit c q) + (count_true (spare_bit w q) + 0)) 0 && nat_eq k 0)))
+    ∙ (ap (λ (k : ℕ). (nat_lt 0 (count_true (own_bit c2 q)) && nat_eq (count_true (own_bit w2 q) + 0) 0) ||
+    (l && (nat_eq (count_true (own_bit c q) + (count_true (own_bit w q) + 0)) 0 && nat_eq k 0)))
     (either-pages n q c2 w2)
-    ∙ locked-count (spare_bit c q) (spare_bit w q) (spare_bit c2 q) (spare_bit w2 q) l))
+    ∙ locked-count (own_bit c q) (own_bit w q) (own_bit c2 q) (own_bit w2 q) l))
 
 -- what it is that the spaces fit the object, for one page
 some-count : (a b : Bool) → (a || b) ≡ true → 0 < count_true a + (count_true b + 0)
@@ -161,18 +166,18 @@ pages-moved : (n : Numbers) (frame : Frame) (views : List SpaceView) (known : �
     (free_by locked_by : Turn) (c w c2 w2 : Option OwnPage) (rest : Rest) →
     IsTurned n frame views free_by locked_by rest →
     ((page s at : ℕ) → IsPlace n page s at → known page (is_free_place views s at) (is_locked_place views s at)) →
-    ((page : ℕ) (f l : Bool) → known page f l → UsedFree (spare_bit c page) (spare_bit w page) f →
-    UsedLocked (spare_bit c page) (spare_bit w page) l →
-    (free_by page f l ≡ free_bits (spare_bit c page) (spare_bit w page) (spare_bit c2 page) (spare_bit w2 page) f)
-    × (locked_by page f l ≡ locked_bits (spare_bit c page) (spare_bit w page) (spare_bit c2 page) (spare_bit w2 page) l)) →
+    ((page : ℕ) (f l : Bool) → known page f l → UsedFree (own_bit c page) (own_bit w page) f →
+    UsedLocked (own_bit c page) (own_bit w page) l →
+    (free_by page f l ≡ free_bits (own_bit c page) (own_bit w page) (own_bit c2 page) (own_bit w2 page) f)
+    × (locked_by page f l ≡ locked_bits (own_bit c page) (own_bit w page) (own_bit c2 page) (own_bit w2 page) l)) →
     MovesTold n frame views (slot_pages c w) (slot_pages c2 w2) rest
 pages-moved n frame views known free_by locked_by c w c2 w2 rest turned facts table =
     turned-moves n frame views known free_by locked_by (slot_pages c w) (slot_pages c2 w2) rest turned facts
     (λ page f l is_known used locked.
-    let uses : (spare_bit c page || spare_bit w page) ≡ true → 0 < either_uses n page (slot_pages c w) =
-    λ some. subst (λ (k : ℕ). 0 < k) (sym (either-pages n page c w)) (some-count (spare_bit c page) (spare_bit w page) some) in
+    let uses : (own_bit c page || own_bit w page) ≡ true → 0 < either_uses n page (slot_pages c w) =
+    λ some. subst (λ (k : ℕ). 0 < k) (sym (either-pages n page c w)) (some-count (own_bit c page) (own_bit w page) some) in
     let bits = table page f l is_known (λ some. used (uses some))
-    (λ some. locked (uses some) ∙ (locks-pages n page c w ∙ locks-bits (spare_bit c page) (spare_bit w page))) in
+    (λ some. locked (uses some) ∙ (locks-pages n page c w ∙ locks-bits (own_bit c page) (own_bit w page))) in
     (bits.0 ∙ sym (free-pages n page f c w c2 w2), bits.1 ∙ sym (locked-pages n page l c w c2 w2)))
 
 -- two owned pages share no page
@@ -183,7 +188,7 @@ run-one first page is_in =
     let high = ltb-true page (first + 1) parts.1 in
     omega (arith, low, high)
 
-apart-bits : (c x : Option OwnPage) → BeginApart c x → (page : ℕ) → spare_bit c page ≡ true → spare_bit x page ≡ false
+apart-bits : (c x : Option OwnPage) → BeginApart c x → (page : ℕ) → own_bit c page ≡ true → own_bit x page ≡ false
 apart-bits None x apart page is = absurd cc
 apart-bits (Some own) None apart page is = refl
 apart-bits (Some own) (Some other) apart page is = elim (cases_Bool (in_run other.first 1 page)) [
@@ -200,7 +205,7 @@ turned-give : (tells : Bool) (n : Numbers) (frame : Frame) (views : List SpaceVi
     (old new : Rest) (before after : Option (List SpaceEvent)) →
     old.frame ≡ frame → IsStore n frame → IfSome own (IsOwn tells n) → UsesPage giving own old new before after →
     AreTold old views → AreHome frame views →
-    IsTurned n frame views (λ page f l. spare_bit own page || f) (λ page f l. not (spare_bit own page) && l) new
+    IsTurned n frame views (λ page f l. own_bit own page || f) (λ page f l. not (own_bit own page) && l) new
 turned-give tells n frame views None old new before after same store owned used told home =
     subst (λ (r : Rest). IsTurned n frame views (λ page f l. f) (λ page f l. l) r) (sym used.0) (turned-not n frame views old told home)
 turned-give tells n frame views (Some own) old new before after same store owned used told home =
@@ -212,7 +217,7 @@ turned-lock : (tells : Bool) (n : Numbers) (frame : Frame) (views : List SpaceVi
     (old new : Rest) (before after : Option (List SpaceEvent)) →
     old.frame ≡ frame → IsStore n frame → IfSome own (IsOwn tells n) → UsesPage locking own old new before after →
     AreTold old views → AreHome frame views →
-    IsTurned n frame views (λ page f l. f) (λ page f l. (spare_bit own page && not f) || l) new
+    IsTurned n frame views (λ page f l. f) (λ page f l. (own_bit own page && not f) || l) new
 turned-lock tells n frame views None old new before after same store owned used told home =
     subst (λ (r : Rest). IsTurned n frame views (λ page f l. f) (λ page f l. l) r) (sym used.0) (turned-not n frame views old told home)
 turned-lock tells n frame views (Some own) old new before after same store owned used told home =
@@ -224,7 +229,7 @@ turned-unlock : (tells : Bool) (n : Numbers) (frame : Frame) (views : List Space
     (old new : Rest) (before after : Option (List SpaceEvent)) →
     old.frame ≡ frame → IsStore n frame → IfSome own (IsOwn tells n) → UsesPage unlocking own old new before after →
     AreTold old views → AreHome frame views →
-    IsTurned n frame views (λ page f l. f) (λ page f l. not (spare_bit own page) && l) new
+    IsTurned n frame views (λ page f l. f) (λ page f l. not (own_bit own page) && l) new
 turned-unlock tells n frame views None old new before after same store owned used told home =
     subst (λ (r : Rest). IsTurned n frame views (λ page f l. f) (λ page f l. l) r) (sym used.0) (turned-not n frame views old told home)
 turned-unlock tells n frame views (Some own) old new before after same store owned used told home =
@@ -261,7 +266,7 @@ drop_free None page f l = f
 
 abbrev pub drop_locked : Option OwnPage → Option OwnPage → Bool → Turn
 drop_locked (Some own) committed dropped page f l = not (in_run own.first 1 page) && l
-drop_locked None committed dropped page f l = (spare_bit (if dropped then None else committed) page && not f) || l
+drop_locked None committed dropped page f l = (own_bit (if dropped then None else committed) page && not f) || l
 
 if-owned : (tells : Bool) (n : Numbers) (committed : Option OwnPage) (dropped : Bool) →
     IfSome committed (IsOwn tells n) → IfSome (if dropped then None else committed) (IsOwn tells n)
@@ -303,18 +308,18 @@ drop-moves n frame views (Some own) committed dropped rest apart turned =
     pages-moved n frame views (λ page f l. Unit {0}) (drop_free (Some own))
     (drop_locked (Some own) committed dropped) committed (Some own) committed None rest turned
     (λ page s at place. tt)
-    (λ page f l known used locked. dropped-fresh (spare_bit committed page)
+    (λ page f l known used locked. dropped-fresh (own_bit committed page)
     (in_run own.first 1 page) f l used locked (apart-bits committed (Some own) apart page))
 drop-moves n frame views None committed true rest apart turned =
     pages-moved n frame views (λ page f l. Unit {0}) (drop_free None)
     (drop_locked None committed true) committed None committed None rest turned
     (λ page s at place. tt)
-    (λ page f l known used locked. dropped-none (spare_bit committed page) f l used locked)
+    (λ page f l known used locked. dropped-none (own_bit committed page) f l used locked)
 drop-moves n frame views None committed false rest apart turned =
     pages-moved n frame views (λ page f l. Unit {0}) (drop_free None)
     (drop_locked None committed false) committed committed committed None rest turned
     (λ page s at place. tt)
-    (λ page f l known used locked. dropped-committed (spare_bit committed page) f l used locked)
+    (λ page f l known used locked. dropped-committed (own_bit committed page) f l used locked)
 
 -- a page was granted, and then the working one went
 abbrev pub Granted : OwnPage → ℕ → Bool → Bool → Type 0
@@ -336,7 +341,7 @@ place-moves tells n frame views start own (Some x) committed dropped middle new 
     (drop_free (Some x)) (drop_locked (Some x) committed dropped) middle new granted.turned next)
     (λ page s at place. (granted.was_free page s at place, granted.was_unlocked page s at place))
     (λ page f l known used locked.
-    placed-fresh (spare_bit committed page) (in_run x.first 1 page)
+    placed-fresh (own_bit committed page) (in_run x.first 1 page)
     (in_run own.first 1 page) f l known.0 known.1 used locked (apart-bits committed (Some x) apart page))
 place-moves tells n frame views start own None committed true middle new between after same store owned kept apart granted used =
     let next = turned-drop tells n frame granted.turned.after None committed true middle new between after same
@@ -346,17 +351,17 @@ place-moves tells n frame views start own None committed true middle new between
     (turned-then n frame views (over_run own.first 1 granted_free) (over_run own.first 1 same_locked)
     (drop_free None) (drop_locked None committed true) middle new granted.turned next)
     (λ page s at place. (granted.was_free page s at place, granted.was_unlocked page s at place))
-    (λ page f l known used locked. placed-none (spare_bit committed page) (in_run own.first 1 page) f l known.0 known.1 used locked)
+    (λ page f l known used locked. placed-none (own_bit committed page) (in_run own.first 1 page) f l known.0 known.1 used locked)
 place-moves tells n frame views start own None committed false middle new between after same store owned kept apart granted used =
     let next = turned-drop tells n frame granted.turned.after None committed false middle new between after same
     store owned kept used granted.turned.told granted.turned.home in
     pages-moved n frame views (Granted own) (λ page f l. not (in_run own.first 1 page) && f)
-    (λ page f l. (spare_bit committed page && not (not (in_run own.first 1 page) && f)) || l)
+    (λ page f l. (own_bit committed page && not (not (in_run own.first 1 page) && f)) || l)
     committed committed committed (Some own) new
     (turned-then n frame views (over_run own.first 1 granted_free) (over_run own.first 1 same_locked)
     (drop_free None) (drop_locked None committed false) middle new granted.turned next)
     (λ page s at place. (granted.was_free page s at place, granted.was_unlocked page s at place))
-    (λ page f l known used locked. placed-committed (spare_bit committed page) (in_run own.first 1 page) f l known.0 known.1 used locked)
+    (λ page f l known used locked. placed-committed (own_bit committed page) (in_run own.first 1 page) f l known.0 known.1 used locked)
 
 -- ---- a page that was granted went back
 
@@ -406,10 +411,10 @@ back-untouched tells start own old middle new before between after granted used 
 -- ---- what the object shows
 
 lengths-of : (c w : Option OwnPage) → HaveLengths (pages_contents c w)
-lengths-of None None = (refl, refl)
-lengths-of None (Some own) = (refl, refl)
-lengths-of (Some own) None = (refl, refl)
-lengths-of (Some own) (Some other) = (refl, refl)
+lengths-of None None = record { committed = refl; working = refl }
+lengths-of None (Some own) = record { committed = refl; working = refl }
+lengths-of (Some own) None = record { committed = refl; working = refl }
+lengths-of (Some own) (Some other) = record { committed = refl; working = refl }
 
 pages-tied : (n : Numbers) (c w : Option OwnPage) (rests : Bool) → (rests ≡ true → w ≡ c) →
     AreTied HaveLengths (pages_form n c w rests) (pages_contents c w)
@@ -474,6 +479,7 @@ unmade-edit tells start edit outcome v rest trace meter is other ready =
       low = part_none (IsExplained (count rest) (Ok outcome)) trace tt;
       port = used-not meter;
       cause = cause-none meter.faults (Ok outcome ≡ Err Fault) (λ same. absurd cc);
+      memory = λ wanted. absurd cc;
       told = λ tell. record {
         working = sym stays;
         committed = refl;
@@ -489,11 +495,11 @@ unmade-edit tells start edit outcome v rest trace meter is other ready =
     }
 
 wants-memory : (tells : Bool) (start : ℕ) (edit : Edit) (v : PageView) (rest : Rest)
-    (trace : Option (List SpaceEvent)) (meter : Meter) → IsReady v.numbers rest →
+    (trace : Option (List SpaceEvent)) (meter : Meter) → IsReady v.numbers rest → EditMayTakeMemory edit →
     PageEdits tells start edit (Err Memory) v v rest rest trace trace meter
-wants-memory tells start edit v rest trace meter ready =
+wants-memory tells start edit v rest trace meter ready may =
     no-memory tells HaveLengths lays_page RefusesOne WritesNone start edit (page_stage v rest trace) meter
-    ready.none refl (λ tell. page-tied v)
+    ready.none refl (λ tell. page-tied v) may
 
 -- one that is made, by what it makes of the working page and of the spaces
 made : (tells : Bool) (start : ℕ) (edit : Edit) (v w : PageView) (old new : Rest)
@@ -519,6 +525,7 @@ made tells start edit v w old new before after meter done numbers committed work
   low = part_as (λ part. Unit {0}) (IsExplained (count old) (Ok Done)) before after (λ part any. tt) part;
   port = used-not meter;
   cause = cause-none meter.faults (Ok Done ≡ Err Fault) (λ same. absurd cc);
+  memory = λ wanted. absurd cc;
   told = λ tell. record {
     working = working;
     committed = ap (λ (own : Option OwnPage). plain_if (is_some own)) committed;
@@ -565,6 +572,29 @@ destroyed tells start edit v old new before after meter is done holds used ready
     (turned-drop tells v.numbers old.frame views v.fresh v.committed v.dropped old new before after refl ready.store
     holds.fresh holds.committed used told home)))
 
+-- the committed version is the working one again
+came_back : (tells : Bool) (start : ℕ) (t : Option ℕ) (n : Numbers) (c fresh : Option OwnPage) (dropped : Bool) (old new : Rest)
+    (before after : Option (List SpaceEvent)) (meter : Meter) →
+    is_some (working_page c fresh dropped) ≡ false → is_some c ≡ true → IfSome c (IsOwn tells n) →
+    UsesPage unlocking c old new before after → IsReady n old →
+    PageEdits tells start (Create t) (Ok Done) (record { numbers = n; committed = c; fresh = fresh; dropped = dropped })
+    (record { numbers = n; committed = c; fresh = fresh; dropped = false }) old new before after meter
+came_back tells start t n None fresh dropped old new before after meter gone some owned used ready = absurd cc
+came_back tells start t n (Some own) (Some other) dropped old new before after meter gone some owned used ready = absurd cc
+came_back tells start t n (Some own) None false old new before after meter gone some owned used ready = absurd cc
+came_back tells start t n (Some own) None true old new before after meter gone some owned used ready =
+    made tells start (Create t) (record { numbers = n; committed = Some own; fresh = None; dropped = true })
+    (record { numbers = n; committed = Some own; fresh = None; dropped = false }) old new before after meter refl refl refl refl
+    (uses-keeps unlocking (Some own) old new before after ready.none used)
+    (part_as AreEnters (λ part. Unit {0}) before after (λ part enters. tt) (uses-enters unlocking (Some own) old new before after used))
+    (λ tell views told long. refl)
+    (λ tell views told home.
+    pages-moved n old.frame views (λ page f l. Unit {0}) (λ page f l. f) (λ page f l. not (own_bit (Some own) page) && l)
+    (Some own) None (Some own) (Some own) new
+    (turned-unlock tells n old.frame views (Some own) old new before after refl ready.store owned used told home)
+    (λ page s at place. tt)
+    (λ page f l known used locked. back-bits (own_bit (Some own) page) f l used locked))
+
 -- a page for a `create`, or for an `append` of no byte
 place-edited : (edit : Edit) (b : Bool) → Places edit → Done ≡ outcome_in edit (plain_if b) → plain_if true ≡ edited edit (plain_if b)
 place-edited (Create t) true places done = absurd cc
@@ -577,16 +607,17 @@ place-edited (Delete at k) b places done = absurd places
 place-edited (Replace at p) b places done = absurd places
 
 place-laid : (n : Numbers) (start : ℕ) (free : Spaces) (edit : Edit) (c w : Option OwnPage) → Places edit →
-    Done ≡ outcome_in edit (plain_if (is_some w)) →
+    (is_create edit && is_some c) ≡ false → Done ≡ outcome_in edit (plain_if (is_some w)) →
     lays_page n start free (slot_pages c w) edit ≡ page_placed n start free (slot_pages c w)
-place-laid n start free (Create t) c (Some own) places done = absurd cc
-place-laid n start free (Create t) c None places done = refl
-place-laid n start free (Append p) c (Some own) places done = refl
-place-laid n start free (Append p) c None places done = absurd cc
-place-laid n start free Destroy c w places done = absurd places
-place-laid n start free (Insert at p) c w places done = absurd places
-place-laid n start free (Delete at k) c w places done = absurd places
-place-laid n start free (Replace at p) c w places done = absurd places
+place-laid n start free (Create t) c (Some own) places fresh done = absurd cc
+place-laid n start free (Create t) None None places fresh done = refl
+place-laid n start free (Create t) (Some own) None places fresh done = absurd cc
+place-laid n start free (Append p) c (Some own) places fresh done = refl
+place-laid n start free (Append p) c None places fresh done = absurd cc
+place-laid n start free Destroy c w places fresh done = absurd places
+place-laid n start free (Insert at p) c w places fresh done = absurd places
+place-laid n start free (Delete at k) c w places fresh done = absurd places
+place-laid n start free (Replace at p) c w places fresh done = absurd places
 
 placed-got : (n : Numbers) (start : ℕ) (free left : Spaces) (c w : Option OwnPage) (own : OwnPage) →
     run_of n start 1 free ≡ Got (record { page = own.first; pages = 1 }) left →
@@ -602,11 +633,11 @@ placed-refused n start free c w refused =
 
 placed : (tells : Bool) (start : ℕ) (edit : Edit) (v : PageView) (own : OwnPage) (old middle new : Rest)
     (before between after : Option (List SpaceEvent)) (meter : Meter) →
-    Places edit → Done ≡ outcome_in edit (plain_if (there v)) → IsHolding tells v →
+    Places edit → (is_create edit && is_some v.committed) ≡ false → Done ≡ outcome_in edit (plain_if (there v)) → IsHolding tells v →
     IsGrantedPage tells start own old middle before between →
     UsesDropped v.fresh v.committed v.dropped middle new between after → IsReady v.numbers old →
     PageEdits tells start edit (Ok Done) v (placed_view v own) old new before after meter
-placed tells start edit v own old middle new before between after meter places done holds granted used ready =
+placed tells start edit v own old middle new before between after meter places anew done holds granted used ready =
     let keeps = drop-keeps v.fresh v.committed v.dropped middle new between after granted.rest.entered used in
     made tells start edit v (placed_view v own) old new before after meter done refl refl (place-edited edit (there v) places done)
     (record { frame = keeps.frame ∙ granted.rest.frame; entered = keeps.entered })
@@ -616,7 +647,7 @@ placed tells start edit v own old middle new before between after meter places d
     (λ tell views told long.
     let answer = grant-answer v.numbers old.frame views start 1 own.space own.first own.pages tells middle
     ready.store long granted.segment (granted.exact views told long) in
-    ap slot_in (place-laid v.numbers start (free_sets views) edit v.committed (working_page v.committed v.fresh v.dropped) places done)
+    ap slot_in (place-laid v.numbers start (free_sets views) edit v.committed (working_page v.committed v.fresh v.dropped) places anew done)
     ∙ placed-got v.numbers start (free_sets views) answer.0 v.committed (working_page v.committed v.fresh v.dropped) own answer.1)
     (λ tell views told home.
     place-moves tells v.numbers old.frame views start own v.fresh v.committed v.dropped middle new between after
@@ -629,12 +660,33 @@ searched-low : (order spaces : ℕ) (part : List SpaceEvent) → IsSearched orde
     space < spaces → IsLow space order part
 searched-low order spaces part searched space less = searched.low refl space (omega arith) less
 
+-- a `create` that asks for a page owns none
+absent : (b : Bool) (t : Option ℕ) → Done ≡ outcome_in (Create t) (plain_if b) → b ≡ false
+absent true t done = absurd cc
+absent false t done = refl
+
+no-fresh : (c fresh : Option OwnPage) (dropped : Bool) → is_some (working_page c fresh dropped) ≡ false → fresh ≡ None
+no-fresh c (Some own) dropped gone = absurd cc
+no-fresh c None dropped gone = refl
+
+asked-may : (edit : Edit) (v : PageView) → (is_create edit && is_some v.committed) ≡ false → Done ≡ outcome_in edit (plain_if (there v)) →
+    (v.committed ≡ None → v.fresh ≡ None → ⊥) → EditMayTakeMemory edit
+asked-may (Create t) v anew done owned =
+    owned (none-unless v.committed anew) (no-fresh v.committed v.fresh v.dropped (absent (there v) t done))
+asked-may Destroy v anew done owned = tt
+asked-may (Append p) v anew done owned = tt
+asked-may (Insert at p) v anew done owned = tt
+asked-may (Delete at k) v anew done owned = tt
+asked-may (Replace at p) v anew done owned = tt
+
 refused : (tells : Bool) (start : ℕ) (edit : Edit) (fail : EditFail) (v : PageView) (old new : Rest)
     (before after : Option (List SpaceEvent)) (meter : Meter) →
-    Places edit → Done ≡ outcome_in edit (plain_if (there v)) → IsNotAsked start fail old new before after → IsReady v.numbers old →
+    Places edit → (is_create edit && is_some v.committed) ≡ false →
+    (v.committed ≡ None → v.fresh ≡ None → fail ≡ Memory → ⊥) → Done ≡ outcome_in edit (plain_if (there v)) →
+    IsNotAsked start fail old new before after → IsReady v.numbers old →
     PageEdits tells start edit (Err fail) v v old new before after meter
-refused tells start edit Fault v old new before after meter places done why ready = absurd why
-refused tells start edit Memory v old new before after meter places done why ready = record {
+refused tells start edit Fault v old new before after meter places anew owned done why ready = absurd why
+refused tells start edit Memory v old new before after meter places anew owned done why ready = record {
   outcome = tt;
   form = tt;
   unmade = refl;
@@ -642,6 +694,7 @@ refused tells start edit Memory v old new before after meter places done why rea
   low = why.trace;
   port = used-not meter;
   cause = cause-none meter.faults (Err Memory ≡ Err Fault) (λ same. absurd cc);
+  memory = λ wanted. asked-may edit v anew done (λ none gone. owned none gone refl);
   told = λ tell. record {
     working = tt;
     committed = refl;
@@ -654,7 +707,7 @@ refused tells start edit Memory v old new before after meter places done why rea
   };
   tied = λ tell. page-tied v;
 }
-refused tells start edit (NoSpace pages) v old new before after meter places done why ready = record {
+refused tells start edit (NoSpace pages) v old new before after meter places anew owned done why ready = record {
   outcome = tt;
   form = tt;
   unmade = refl;
@@ -664,13 +717,15 @@ refused tells start edit (NoSpace pages) v old new before after meter places don
       (searched-low (least_order 1) (count old) part looked)) why.searched;
   port = used-not meter;
   cause = cause-none meter.faults (Err (NoSpace pages) ≡ Err Fault) (λ same. absurd cc);
+  memory = λ wanted. absurd cc;
   told = λ tell. record {
     working = tt;
     committed = refl;
     kept = refl;
     unmade = refl;
     granted = λ views told long.
-        ap pages_in (place-laid v.numbers start (free_sets views) edit v.committed (working_page v.committed v.fresh v.dropped) places done)
+        ap pages_in (place-laid v.numbers start (free_sets views) edit v.committed
+        (working_page v.committed v.fresh v.dropped) places anew done)
         ∙ (placed-refused v.numbers start (free_sets views) v.committed (working_page v.committed v.fresh v.dropped)
         (grant-refused v.numbers old.frame views start 1 new long (why.exact views told long)).0
         ∙ ap Some (sym why.one));
@@ -715,11 +770,11 @@ settled tells n c x w rests old new before after is owned apart ready used =
       rest = uses-keeps giving c old new before after ready.none used;
       enters = uses-enters giving c old new before after used;
       spaces = λ tell views told home.
-          pages-moved n old.frame views (λ page f l. Unit {0}) (λ page f l. spare_bit c page || f)
-          (λ page f l. not (spare_bit c page) && l) c x x x new
+          pages-moved n old.frame views (λ page f l. Unit {0}) (λ page f l. own_bit c page || f)
+          (λ page f l. not (own_bit c page) && l) c x x x new
           (turned-give tells n old.frame views c old new before after refl ready.store owned used told home)
           (λ page s at place. tt)
-          (λ page f l known used locked. settled-bits (spare_bit c page) (spare_bit x page) f l used locked (apart-bits c x apart page));
+          (λ page f l known used locked. settled-bits (own_bit c page) (own_bit x page) f l used locked (apart-bits c x apart page));
       tied = λ tell. pages-tied n x x true (λ same. refl);
     })
 
@@ -746,13 +801,13 @@ undone tells n c x w rests old middle new before between after is kept owned apa
           let one = turned-give tells n old.frame views x old middle before between refl ready.store owned gave told home in
           let two = turned-unlock tells n old.frame one.after c middle new between after first.frame ready.store
           kept unlocked one.told one.home in
-          pages-moved n old.frame views (λ page f l. Unit {0}) (λ page f l. spare_bit x page || f)
-          (λ page f l. not (spare_bit c page) && (not (spare_bit x page) && l)) c x c c new
-          (turned-then n old.frame views (λ page f l. spare_bit x page || f)
-          (λ page f l. not (spare_bit x page) && l) (λ page f l. f)
-          (λ page f l. not (spare_bit c page) && l) middle new one two)
+          pages-moved n old.frame views (λ page f l. Unit {0}) (λ page f l. own_bit x page || f)
+          (λ page f l. not (own_bit c page) && (not (own_bit x page) && l)) c x c c new
+          (turned-then n old.frame views (λ page f l. own_bit x page || f)
+          (λ page f l. not (own_bit x page) && l) (λ page f l. f)
+          (λ page f l. not (own_bit c page) && l) middle new one two)
           (λ page s at place. tt)
-          (λ page f l known used locked. undone-bits (spare_bit c page) (spare_bit x page) f l used locked (apart-bits c x apart page));
+          (λ page f l known used locked. undone-bits (own_bit c page) (own_bit x page) f l used locked (apart-bits c x apart page));
       tied = λ tell. pages-tied n c c true (λ same. refl);
     })
 
@@ -770,6 +825,17 @@ rested tells n c rest trace ready = record {
   tied = λ tell. pages-tied n c c true (λ same. refl);
 }
 
+-- ---- reads
+
+pub page-read : (tells : Bool) (at len : ℕ) (result : Result (List ℕ) LookFail) (v : PageView) (meter : Meter) →
+    IsWithin (page_form v).working at len → IfOk result (λ bytes. (bytes ≡ []) × (len ≡ 0)) → (result ≡ Err look.Fault → ⊥) →
+    (result ≡ Err look.Memory → 0 < len) →
+    IsBodyRead tells HaveLengths (λ n slot bytes pages. pages ≡ 0) at len result (page_form v) (page_form v)
+    (page_contents v) (page_contents v) meter meter
+page-read tells at len result v meter within =
+    empty-read tells HaveLengths (λ n slot bytes pages. pages ≡ 0) at len result (page_form v) (page_contents v) meter within refl
+    (λ tell. page-tied v)
+
 -- ---- the same of a view, which is known by an equation
 
 pub unmade-by : (tells : Bool) (start : ℕ) (edit : Edit) (outcome : Outcome) (v inside : PageView) (rest : Rest)
@@ -781,10 +847,11 @@ unmade-by tells start edit outcome v inside rest trace meter same is other =
     (unmade-edit tells start edit outcome inside rest trace meter is other)
 
 pub memory-by : (tells : Bool) (start : ℕ) (edit : Edit) (v inside : PageView) (rest : Rest)
-    (trace : Option (List SpaceEvent)) (meter : Meter) → v ≡ inside → IsReady v.numbers rest →
+    (trace : Option (List SpaceEvent)) (meter : Meter) → v ≡ inside → IsReady v.numbers rest → EditMayTakeMemory edit →
     PageEdits tells start edit (Err Memory) v v rest rest trace trace meter
 memory-by tells start edit v inside rest trace meter same =
-    subst (λ (x : PageView). IsReady x.numbers rest → PageEdits tells start edit (Err Memory) x x rest rest trace trace meter) (sym same)
+    subst (λ (x : PageView). IsReady x.numbers rest → EditMayTakeMemory edit →
+    PageEdits tells start edit (Err Memory) x x rest rest trace trace meter) (sym same)
     (wants-memory tells start edit inside rest trace meter)
 
 pub destroyed-by : (tells : Bool) (start : ℕ) (edit : Edit) (v inside : PageView) (now : Option OwnPage)
@@ -816,9 +883,67 @@ destroyed-by tells start edit v inside now old new before after meter same is do
     }) old new before after meter) (sym gone)
     (destroyed tells start edit inside old new before after meter is done holds used))
 
+pub came-back-by : (tells : Bool) (start : ℕ) (edit : Edit) (v inside : PageView) (old new : Rest)
+    (before after : Option (List SpaceEvent)) (meter : Meter) → v ≡ inside → (is_create edit && is_some inside.committed) ≡ true →
+    Done ≡ outcome_in edit (plain_if (there inside)) → IsHolding tells inside →
+    UsesPage unlocking inside.committed old new before after → IsReady v.numbers old →
+    PageEdits tells start edit (Ok Done) v (record {
+      numbers = inside.numbers;
+      committed = inside.committed;
+      fresh = inside.fresh;
+      dropped = false;
+    }) old new before after meter
+came-back-by tells start edit v inside old new before after meter same create done holds used =
+    subst (λ (x : PageView). IsReady x.numbers old → PageEdits tells start edit (Ok Done) x back old new before after meter) (sym same)
+    (λ ready. go edit create done ready)
+  where
+    back : PageView
+    back = record { numbers = inside.numbers; committed = inside.committed; fresh = inside.fresh; dropped = false }
+
+    go : (edit : Edit) → (is_create edit && is_some inside.committed) ≡ true →
+        Done ≡ outcome_in edit (plain_if (there inside)) → IsReady inside.numbers old →
+        PageEdits tells start edit (Ok Done) inside back old new before after meter
+    go (Create t) create done ready =
+        came_back tells start t inside.numbers inside.committed inside.fresh inside.dropped old new before after meter
+        (absent (there inside) t done) create holds.committed used ready
+    go Destroy create done ready = absurd cc
+    go (Append p) create done ready = absurd cc
+    go (Insert at p) create done ready = absurd cc
+    go (Delete at k) create done ready = absurd cc
+    go (Replace at p) create done ready = absurd cc
+
+create-absent : (edit : Edit) (b : Bool) → is_create edit ≡ true → Done ≡ outcome_in edit (plain_if b) → b ≡ false
+create-absent (Create t) b create done = absent b t done
+create-absent Destroy b create done = absurd cc
+create-absent (Append p) b create done = absurd cc
+create-absent (Insert at p) b create done = absurd cc
+create-absent (Delete at k) b create done = absurd cc
+create-absent (Replace at p) b create done = absurd cc
+
+-- and nothing is fresh then
+pub back-holds : (tells : Bool) (edit : Edit) (v : PageView) → IsHolding tells v →
+    (is_create edit && is_some v.committed) ≡ true → Done ≡ outcome_in edit (plain_if (there v)) →
+    IsHolding tells (record { numbers = v.numbers; committed = v.committed; fresh = v.fresh; dropped = false })
+back-holds tells edit v holds back done = record {
+  committed = holds.committed;
+  fresh = holds.fresh;
+  apart = holds.apart;
+  dropped = λ is. no-fresh v.committed v.fresh v.dropped
+      (create-absent edit (there v) (and_parts (is_create edit) (is_some v.committed) back).0 done);
+}
+
+-- of what is owned, through the code's own type
+pub mapped-some : {A B : Type 0} (o : Option A) (f : A → B) → is_some (option_map f o) ≡ is_some o
+mapped-some None f = refl
+mapped-some (Some x) f = refl
+
+pub mapped-none : {A B : Type 0} (o : Option A) (f : A → B) → option_map f o ≡ None → o ≡ None
+mapped-none None f none = refl
+mapped-none (Some x) f none = absurd cc
+
 pub placed-by : (tells : Bool) (start : ℕ) (edit : Edit) (v inside : PageView) (own : OwnPage)
     (old middle new : Rest) (before between after : Option (List SpaceEvent)) (meter : Meter) → v ≡ inside →
-    Places edit →
+    Places edit → (is_create edit && is_some inside.committed) ≡ false →
     Done ≡ outcome_in edit (plain_if (there inside)) → IsHolding tells inside → IsGrantedPage tells start own old middle before between →
     UsesDropped inside.fresh inside.committed inside.dropped middle new between after → IsReady v.numbers old →
     PageEdits tells start edit (Ok Done) v (record {
@@ -828,7 +953,7 @@ pub placed-by : (tells : Bool) (start : ℕ) (edit : Edit) (v inside : PageView)
           Some own;
       dropped = true;
     }) old new before after meter
-placed-by tells start edit v inside own old middle new before between after meter same places done holds granted used =
+placed-by tells start edit v inside own old middle new before between after meter same places anew done holds granted used =
     subst (λ (x : PageView). IsReady x.numbers old →
     PageEdits tells start edit (Ok Done) x (record {
       numbers = inside.numbers;
@@ -836,15 +961,17 @@ placed-by tells start edit v inside own old middle new before between after mete
       fresh = Some own;
       dropped = true;
     }) old new before after meter) (sym same)
-    (placed tells start edit inside own old middle new before between after meter places done holds granted used)
+    (placed tells start edit inside own old middle new before between after meter places anew done holds granted used)
 
 pub refused-by : (tells : Bool) (start : ℕ) (edit : Edit) (fail : EditFail) (v inside : PageView) (old new : Rest)
-    (before after : Option (List SpaceEvent)) (meter : Meter) → v ≡ inside → Places edit →
+    (before after : Option (List SpaceEvent)) (meter : Meter) → v ≡ inside →
+    Places edit → (is_create edit && is_some inside.committed) ≡ false →
+    (inside.committed ≡ None → inside.fresh ≡ None → fail ≡ Memory → ⊥) →
     Done ≡ outcome_in edit (plain_if (there inside)) → IsNotAsked start fail old new before after →
     IsReady v.numbers old → PageEdits tells start edit (Err fail) v v old new before after meter
-refused-by tells start edit fail v inside old new before after meter same places done why =
+refused-by tells start edit fail v inside old new before after meter same places anew owned done why =
     subst (λ (x : PageView). IsReady x.numbers old → PageEdits tells start edit (Err fail) x x old new before after meter) (sym same)
-    (refused tells start edit fail inside old new before after meter places done why)
+    (refused tells start edit fail inside old new before after meter places anew owned done why)
 
 pub settled-by : (tells : Bool) (v inside : PageView) (c x now : Option OwnPage) (old new : Rest)
     (before after : Option (List SpaceEvent)) → v ≡ inside → inside.dropped ≡ true →

@@ -194,3 +194,17 @@ undone-bits false false true true used locked apart = (refl, refl)
 undone-bits false false true false used locked apart = (refl, refl)
 undone-bits false false false true used locked apart = (refl, refl)
 undone-bits false false false false used locked apart = (refl, refl)
+
+-- the committed version is the working one again
+pub back-bits : (c f l : Bool) →
+    ((c || false) ≡ true → f ≡ false) →
+    ((c || false) ≡ true → l ≡ (c && not false)) →
+    (f ≡ free_bits c false c c f) × ((not c && l) ≡ locked_bits c false c c l)
+back-bits true true true used locked = (let never : true ≡ false = used refl in absurd cc)
+back-bits true true false used locked = (let never : true ≡ false = used refl in absurd cc)
+back-bits true false true used locked = (refl, refl)
+back-bits true false false used locked = (let never : false ≡ true = locked refl in absurd cc)
+back-bits false true true used locked = (refl, refl)
+back-bits false true false used locked = (refl, refl)
+back-bits false false true used locked = (refl, refl)
+back-bits false false false used locked = (refl, refl)

@@ -1,3 +1,3 @@
-pub mod Kind
 pub mod Page
 pub mod Kept
+pub mod Laws

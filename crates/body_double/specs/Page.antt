@@ -4,13 +4,17 @@ use Rattle.std.specs.Prelude.{length, Option, Some, None, is_some, is_none, IfSo
 use Rattle.std.specs.Prelude.{if◌then◌else◌}
 use Rattle.eos_ops.specs.declared.edit.Edit.{Edit}
 use Rattle.eos_ops.specs.declared.edit.Edit.TheVariants.{Create, Destroy, Append}
+use Rattle.eos_ops.specs.declared.plain.Plain.{Plain}
+use Rattle.eos_ops.specs.declared.plain.Plain.TheVariants.{Absent, Present}
 use Rattle.geometry_model.specs.Numbers.{Numbers}
+use Rattle.geometry_model.specs.Pages.{IsInSpace}
 use Rattle.block_model.specs.Place.{least_order}
 use Rattle.layout_model.specs.Grants.{Spaces, Answer, Got, and_then, run_of, spot_in, around}
 use Rattle.layout_model.specs.Layout.{Tree}
 use Rattle.moment_model.specs.Version.{Version}
 use Rattle.moment_model.specs.Moment.{ObjectSlot}
 use Rattle.moment_model.specs.Edit.{with_working}
+use Rattle.page_port.specs.Pages.{IsSized}
 use Rattle.space_directory.specs.SpaceView.{SpaceView, after_give, after_lock, after_unlock}
 use Rattle.superdirectory.specs.Grants.{AreTold, KeepsFrame, IsSegmentIn, IsExact, UsesSpace}
 use Rattle.superdirectory.specs.Grants.{free_sets}
@@ -22,7 +26,12 @@ use Rattle.object_body.specs.Form.{Form, Contents}
 use Rattle.object_body.specs.Lengths.{length_of}
 use Rattle.object_body.specs.Moves.{IsUntouched}
 use Rattle.object_body.specs.Places.{IsStore, AreHome}
-use Rattle.body_double.specs.Kind.{OwnPage, IsOwn, plain_if, spare_destroyed}
+
+-- a page that is owned: its space, its number, and what it holds
+pub record OwnPage : Type 0 where
+  pub space : ℕ
+  pub first : ℕ
+  pub pages : List (List ℕ)
 
 -- The page of the committed version, none where it is absent; the page that this transaction was
 -- granted for the working version; and whether an edit has dropped the committed one.
@@ -43,6 +52,10 @@ page_tree page = record { levels = (record { page = page; pairs = [] } ∷ []) �
 
 abbrev pub page_version : Option OwnPage → Version
 page_version own = option_map (λ own. page_tree own.first) own
+
+-- an object that is there has no byte
+abbrev pub plain_if : Bool → Plain
+plain_if there = if there then Present [] else Absent
 
 -- what an object of these versions shows
 abbrev pub pages_form : Numbers → Option OwnPage → Option OwnPage → Bool → Form
@@ -77,32 +90,58 @@ abbrev pub page_placed : Numbers → ℕ → Spaces → ObjectSlot → Answer Ob
 page_placed n start free slot = and_then (run_of n start 1 free)
     (λ run left. Got (with_working slot (Some (page_tree run.page)) None) left)
 
+-- a new object is placed so; one whose committed version is there gets it back
+abbrev pub page_made : Numbers → ℕ → Spaces → ObjectSlot → Version → Answer ObjectSlot
+page_made n start free slot None = page_placed n start free slot
+page_made n start free slot (Some tree) = Got (with_working slot (Some tree) None) free
+
 abbrev pub page_created : Numbers → ℕ → Spaces → ObjectSlot → Version → Answer ObjectSlot
-page_created n start free slot None = page_placed n start free slot
+page_created n start free slot None = page_made n start free slot slot.committed
 page_created n start free slot (Some tree) = Got slot free
 
 abbrev pub page_moved : Numbers → ℕ → Spaces → ObjectSlot → Version → Answer ObjectSlot
 page_moved n start free slot None = Got slot free
 page_moved n start free slot (Some tree) = page_placed n start free slot
 
--- A `create` of an absent object asks for one page, and an `append` to one that is there for
--- another one, to which it moves. A `destroy` leaves no working version. No other edit is made.
+abbrev pub page_dropped : Spaces → ObjectSlot → Version → Answer ObjectSlot
+page_dropped free slot None = Got slot free
+page_dropped free slot (Some tree) = Got (with_working slot None None) free
+
+-- A `create` of an absent object asks for one page, or makes a committed version the working one
+-- again. An `append` to an object that is there asks for another page, to which it moves. A
+-- `destroy` leaves no working version. No other edit is made.
 abbrev pub lays_page : Numbers → ℕ → Spaces → ObjectSlot → Edit → Answer ObjectSlot
 lays_page n start free slot (Create t) = page_created n start free slot slot.working
 lays_page n start free slot (Append bytes) = page_moved n start free slot slot.working
-lays_page n start free slot Destroy = spare_destroyed free slot slot.working
+lays_page n start free slot Destroy = page_dropped free slot slot.working
 lays_page n start free slot edit = Got slot free
 
--- these edits ask for a page: a `create`, and an `append` of no byte
+-- a tree on one page, with no entry
+abbrev pub IsPageTree : Numbers → Tree → Type 0
+IsPageTree n tree = (page : ℕ) × (tree ≡ page_tree page)
+
+-- these edits ask for a page, where none is there to come back to: a `create`, and an `append` of
+-- no byte
 abbrev pub Places : Edit → Type 0
 Places (Create t) = Unit {0}
 Places (Append bytes) = bytes ≡ []
 Places edit = ⊥
 
+-- does the edit make the object anew?
+abbrev pub is_create : Edit → Bool
+is_create (Create t) = true
+is_create edit = false
+
 -- two pages that are owned are two
 abbrev pub BeginApart : Option OwnPage → Option OwnPage → Type 0
 BeginApart (Some own) (Some other) = own.first ≡ other.first → ⊥
 BeginApart own other = Unit {0}
+
+-- an owned page is a data page of the store
+pub record IsOwn (tells : Bool) (n : Numbers) (own : OwnPage) : Type 0 where
+  pub place : IsInSpace n own.space own.first 1
+  pub one : length own.pages ≡ 1
+  pub sized : IsSized tells n.page own.pages
 
 -- The owned pages are data pages of the store, and two. A fresh one is there only once the
 -- committed one is dropped.

@@ -1,9 +1,12 @@
-//! An object that is made of the pages of a tree and stays as it is, as a stored body.
+//! An object that is made of the pages of a tree and keeps its bytes, as a stored body.
 
-ghost use Rattle.std.specs.Prelude.{◌≡◌};
-ghost use Rattle.body_double.specs.Kind.{HaveLengths};
-ghost use Rattle.body_double.specs.Kept.{KeepsTree, kept_form, kept_contents, lays_none, fits_all};
+ghost use Rattle.std.specs.Prelude.{◌≡◌, ◌||◌, true, is_some};
+ghost use Rattle.object_body.specs.Form.{HaveLengths, any_tree};
+ghost use Rattle.body_double.specs.Kept.{KeepsTree, kept_form, kept_contents, lays_kept, fits_all};
+ghost use Rattle.body_double.specs.Kept.{working_entry};
+ghost use Rattle.body_double.specs.Laws.{keeps-kept, lengths-told};
 
+use crate::creates::creates;
 use eos_ops::{Bytes, Edit, Outcome};
 use object_body::{Body, EditFail, LookFail, Stored};
 use page_port::{Geometry, Port};
@@ -13,13 +16,14 @@ use std::marker::Model;
 use superdirectory::{Hints, Latches};
 use tree_model::{Pair, Root};
 
-/// An object whose bytes stand in a tree on the pages that it holds. It is at rest at all times:
-/// each edit and each read of it is answered as want of memory.
+/// An object whose bytes stand in a tree on the pages that it holds. An absent one can be created,
+/// without a byte; each other edit, and each read of bytes, is answered as want of memory.
 #[derive(Drop)]
 pub struct KeptBody<P: Port> {
     geometry: Geometry,
     threshold: u16,
     root: Option<Root>,
+    created: bool,
     held: Holdings<P::S>,
 }
 
@@ -32,14 +36,34 @@ impl<P: Port> Model for KeptBody<P> {
     ghost view = { λ b. record {
       numbers = b.geometry;
       entry = entry_of b.root b.threshold;
+      created = b.created;
       held = b.held;
     } };
 
     ghost invariant = { λ b. KeepsTree P.S.tells (record {
       numbers = b.geometry;
       entry = entry_of b.root b.threshold;
+      created = b.created;
       held = b.held;
     }) };
+}
+
+/// The root of a tree without a byte, which has no page.
+fn empty_root() -> Root
+    ensures { result ≡ record { height = 0; page = 0; length = 0 } }
+{
+    Root {
+        height: 0,
+        page: 0,
+        length: 0,
+    }
+}
+
+/// Is the working version there: has an edit created it, or has it a root?
+fn is_there(root: &Option<Root>, created: bool) -> bool
+    ensures { result ≡ (created || is_some root.now) }
+{
+    created || root.is_some()
 }
 
 impl<P: Port> KeptBody<P> {
@@ -60,7 +84,11 @@ impl<P: Port> Body for KeptBody<P> {
 
     ghost suits = { HaveLengths };
 
-    ghost laid = { lays_none };
+    ghost on_pages = { true };
+
+    ghost good = { any_tree };
+
+    ghost laid = { lays_kept };
 
     ghost may_refuse = { λ n slot pages. ⊥ };
 
@@ -70,6 +98,9 @@ impl<P: Port> Body for KeptBody<P> {
 
     fn length(&self) -> Option<u64> {
         self.keeps_tree();
+        if self.created {
+            return Some(0);
+        }
         match self.root {
             Some(root) => Some(root.length),
             None => None,
@@ -78,12 +109,15 @@ impl<P: Port> Body for KeptBody<P> {
 
     fn read(
         &mut self,
-        _alloc: Global,
+        alloc: Global,
         _port: &mut P,
         _at: u64,
-        _len: u64,
+        len: u64,
     ) -> Result<Bytes, LookFail> {
         self.keeps_tree();
+        if len == 0 {
+            return Ok(Bytes::new(alloc));
+        }
         Err(LookFail::Memory)
     }
 
@@ -94,19 +128,36 @@ impl<P: Port> Body for KeptBody<P> {
         _latches: &mut L,
         _turn: &mut L::Turn,
         _start: u16,
-        _edit: &Edit,
+        edit: &Edit,
     ) -> Result<Outcome, EditFail> {
         self.keeps_tree();
-        Err(EditFail::Memory)
+        if !creates(edit) {
+            return Err(EditFail::Memory);
+        }
+        if is_there(&self.root, self.created) {
+            return Ok(Outcome::Exists);
+        }
+        self.created = true;
+        Ok(Outcome::Done)
     }
 
     fn settle<L: Latches<S = P::S>>(&mut self, _latches: &mut L, _turn: &mut L::Turn) {
         self.keeps_tree();
+        if self.created {
+            self.root = Some(empty_root());
+            self.threshold = 1;
+            self.created = false;
+        }
     }
 
     fn undo<L: Latches<S = P::S>>(&mut self, _latches: &mut L, _turn: &mut L::Turn) {
         self.keeps_tree();
+        self.created = false;
     }
+
+    ghost keeps_soundness = { keeps-kept };
+
+    ghost lengths = { lengths-told };
 }
 
 impl<P: Port> Stored for KeptBody<P> {
@@ -116,7 +167,7 @@ impl<P: Port> Stored for KeptBody<P> {
 
     ghost pages = { λ v. v.held };
 
-    ghost entry = { λ v. v.entry };
+    ghost entry = { λ v. working_entry v.entry v.created };
 
     fn fits(
         _geometry: &Geometry,
@@ -141,15 +192,22 @@ impl<P: Port> Stored for KeptBody<P> {
             geometry: *geometry,
             threshold,
             root,
+            created: false,
             held,
         })
     }
 
     fn root(&self) -> Option<Root> {
+        if self.created {
+            return Some(empty_root());
+        }
         self.root
     }
 
     fn threshold(&self) -> u16 {
+        if self.created {
+            return 1;
+        }
         match self.root {
             Some(_) => self.threshold,
             None => 0,

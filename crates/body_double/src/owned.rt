@@ -1,7 +1,7 @@
 //! A page that is owned, or none: asked for, given back, locked and unlocked.
 
 ghost use Rattle.std.specs.Prelude.{◌≡◌, ◌<◌, ◌≤◌, ◌==◌, length, None, Some, IfSome, IfOk, IfErr};
-ghost use Rattle.std.specs.Prelude.{option_map, is_some, false};
+ghost use Rattle.std.specs.Prelude.{Err, option_map, is_some, false};
 ghost use Rattle.page_port.specs.Pages.{IsSized};
 ghost use Rattle.superdirectory.specs.Grants.{IsRunIn};
 ghost use Rattle.superdirectory.specs.Rest.{count};
@@ -40,6 +40,7 @@ pub fn ask<S: Span, L: Latches<S = S>>(
         (Some (record { space = g.space; first = S.start g.span; pages = S.contents g.span }))) }
     ensures refused { IfErr result (λ fail. IsNotAsked start fail
         (L.rest latches.old) (L.rest latches.new) (L.trace latches.old) (L.trace latches.new)) }
+    ensures owned { committed.now ≡ None → fresh.now ≡ None → result ≡ Err EditFail.Memory → ⊥ }
 {
     let segment = match grant(latches, turn, start, 1) {
         Ok(segment) => segment,

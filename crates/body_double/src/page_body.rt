@@ -1,17 +1,20 @@
 //! An object of no byte whose versions own a page each, as a body.
 
 ghost use Rattle.std.specs.Prelude.{◌≡◌, ◌<◌, ℕ, Option, None, Ok, Err, true, false, is_some};
-ghost use Rattle.std.specs.Prelude.{IsTrue, option_map};
+ghost use Rattle.std.specs.Prelude.{IsTrue, option_map, ◌&&◌};
 ghost use Rattle.eos_ops.specs.declared.edit.Edit.TheVariants as edit_view;
 ghost use Rattle.superdirectory.specs.Rest.{count};
 ghost use Rattle.object_body.specs.Calls.{Stage, IsEdit};
 ghost use Rattle.object_body.specs.Places.{IsReady};
-ghost use Rattle.body_double.specs.Kind.{HaveLengths};
+ghost use Rattle.object_body.specs.Form.{HaveLengths};
+ghost use Rattle.object_body.specs.Memory.{EditMayTakeMemory};
+ghost use Rattle.body_double.specs.Laws.{keeps-page, lengths-told};
 ghost use Rattle.body_double.specs.Page.{page_form, page_contents, working_page, lays_page, Places};
+ghost use Rattle.body_double.specs.Page.{IsPageTree, is_create, plain_if};
 
+use crate::creates::creates;
 use crate::owned::{ask, drop_page, give_back, unlock};
-use crate::spare_body::plain;
-use eos_ops::{Bytes, Edit, Outcome};
+use eos_ops::{Bytes, Edit, Outcome, Plain};
 use object_body::{Body, EditFail, LookFail};
 use page_port::{Geometry, Port, Span};
 use space_directory::Segment;
@@ -20,9 +23,10 @@ use std::marker::Model;
 use superdirectory::{Hints, Latches};
 
 /// An object of no byte, each version of which stands on one page. Whoever creates it is granted a
-/// page, and an `append` of no byte moves it to another one. The committed page is locked once the
-/// working version has left it, and goes back when the transaction is settled; a fresh one goes
-/// back when it is undone. Edits that bring or take bytes are answered as want of memory.
+/// page, or has the committed one again, and an `append` of no byte moves it to another one. The
+/// committed page is locked once the working version has left it, and goes back when the
+/// transaction is settled; a fresh one goes back when it is undone. Edits and reads that bring,
+/// take or ask for bytes are answered as want of memory.
 #[derive(Drop)]
 pub struct PageBody<P: Port> {
     geometry: Geometry,
@@ -80,6 +84,10 @@ impl<P: Port> Body for PageBody<P> {
 
     ghost suits = { HaveLengths };
 
+    ghost on_pages = { true };
+
+    ghost good = { IsPageTree };
+
     ghost laid = { lays_page };
 
     ghost may_refuse = { λ n slot pages. pages ≡ 1 };
@@ -98,11 +106,14 @@ impl<P: Port> Body for PageBody<P> {
 
     fn read(
         &mut self,
-        _alloc: Global,
+        alloc: Global,
         _port: &mut P,
         _at: u64,
-        _len: u64,
+        len: u64,
     ) -> Result<Bytes, LookFail> {
+        if len == 0 {
+            return Ok(Bytes::new(alloc));
+        }
         Err(LookFail::Memory)
     }
 
@@ -129,6 +140,11 @@ impl<P: Port> Body for PageBody<P> {
                 self.dropped,
             );
             self.dropped = true;
+            return Ok(Outcome::Done);
+        }
+        if comes_back(edit, &self.committed) {
+            unlock(latches, turn, &self.committed);
+            self.dropped = false;
             return Ok(Outcome::Done);
         }
         if !asks(edit) {
@@ -169,6 +185,20 @@ impl<P: Port> Body for PageBody<P> {
             return;
         }
     }
+
+    ghost keeps_soundness = { keeps-page };
+
+    ghost lengths = { lengths-told };
+}
+
+/// An object that is there or not.
+fn plain(alloc: Global, there: bool) -> Plain
+    ensures { result ≡ plain_if there }
+{
+    if there {
+        return Plain::Present(Bytes::new(alloc));
+    }
+    Plain::Absent
 }
 
 /// Has the working version a page?
@@ -198,9 +228,17 @@ fn is_there<S: Span>(
     }
 }
 
+/// Does the edit make the object anew whose committed version has a page?
+fn comes_back<S: Span>(edit: &Edit, committed: &Option<Segment<S>>) -> bool
+    ensures { result ≡ (is_create edit.now && is_some committed.now) }
+{
+    creates(edit) && committed.is_some()
+}
+
 /// Does the edit ask for a page: is it a `create`, or an `append` of no byte?
 fn asks(edit: &Edit) -> bool
-    ensures { IsTrue result → Places edit.now }
+    ensures asks { IsTrue result → Places edit.now }
+    ensures memory { result ≡ false → EditMayTakeMemory edit.now }
 {
     match edit {
         Edit::Create { .. } => true,

@@ -138,6 +138,28 @@ fn a_page_that_is_left_is_locked_until_the_end(rt: HostRuntime) {
     assert_eq!(rt; counts(&mut latches), (16, 0));
 }
 
+#[test]
+fn what_is_created_again_has_its_page_back(rt: HostRuntime) {
+    let alloc = rt.alloc();
+    let Some(geometry) = Geometry::new(256, 4, 1, 1, 2) else {
+        return assert!(rt; false);
+    };
+    let Some(mut latches) = free_space(alloc) else {
+        return assert!(rt; false);
+    };
+    let mut body = PageBody::new(&geometry);
+    let create = Edit::Create { threshold: None };
+    assert!(rt; edited(alloc, &mut body, &mut latches, &create) == Ok(Outcome::Done));
+    ended(&mut body, &mut latches, true);
+    assert!(rt; edited(alloc, &mut body, &mut latches, &Edit::Destroy) == Ok(Outcome::Done));
+    assert_eq!(rt; counts(&mut latches), (15, 1));
+    assert!(rt; edited(alloc, &mut body, &mut latches, &create) == Ok(Outcome::Done));
+    assert_eq!(rt; counts(&mut latches), (15, 0));
+    ended(&mut body, &mut latches, true);
+    assert_eq!(rt; body.length(), Some(0));
+    assert_eq!(rt; counts(&mut latches), (15, 0));
+}
+
 /// The other spaces have never granted page 3, and the body owns it.
 #[test]
 fn a_page_that_is_owned_is_not_taken_again(rt: HostRuntime) {

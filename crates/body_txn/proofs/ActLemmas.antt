@@ -185,7 +185,8 @@ refused-by-length : (at n : ℕ) (object : Plain)
 refused-by-length at n Absent = refl
 refused-by-length at n (Present x) = refused-if (nat_le (at + n) (length x)) _ (length x)
 
-refused-or-made : {A : Type 0} {P R : Type 0} {Q S : A → Type 0} (o : Option A) → MatchOption o P Q → MatchOption o (Unit {0}) S → (P → R)
+pub refused-or-made : {A : Type 0} {P R : Type 0} {Q S : A → Type 0} (o : Option A) → MatchOption o P Q
+    → MatchOption o (Unit {0}) S → (P → R)
     → ((a : A) → Q a → S a → R) → R
 refused-or-made None made right look refuse = look made
 refused-or-made (Some a) made right look refuse = refuse a made right

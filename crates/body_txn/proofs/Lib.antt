@@ -5,3 +5,4 @@ mod NotedLemmas
 mod PlaceLemmas
 pub mod ServingLemmas
 mod TakingLemmas
+mod WantLemmas

@@ -1,7 +1,7 @@
 -- What taking an object makes of the transaction and the shelf, by its answer.
 use Rattle.std.specs.Prelude.{◌≡◌, ℕ, ◌<◌, ◌≤◌, ◌^◌, ◌↔◌, List, [], ◌∷◌, ◌++◌, length, Bool, true}
-use Rattle.std.specs.Prelude.{Option, Some, None, IsSome, IsOk, IfSome, IfErr, OnOk, OnErr}
-use Rattle.std.specs.Prelude.{slice_get, Result, Err}
+use Rattle.std.specs.Prelude.{false, Option, Some, None, IsSome, IfSome, IfErr, OnErr}
+use Rattle.std.specs.Prelude.{slice_get, Result, Ok, Err}
 use Rattle.eos_ops.specs.declared.end.End.{End}
 use Rattle.eos_ops.specs.declared.limits.TheConstants.{MAX_HELD}
 use Rattle.eos_ops.specs.Ends.{last_stamp_of}
@@ -73,13 +73,13 @@ pub record HasHoldCause {T A : Type 0} (keeps : Bool) (o : ℕ) (txn : Transacti
       (CanAsk o txn × (slice_get xs o ≡ Some None)))
   pub memory : result ≡ Err Memory → keeps ≡ true
 
--- A held object stays held and nothing happens; one that was taken is held; after a refusal nothing
--- is held that wasn't.
-pub record IsHold {T C A : Type 0} (body : T → C) (told : T → Option (List End))
-    (last spare : T → ℕ) (rests : T → Type 0) (o : ℕ) (result : Result A HoldFail)
+-- The answer says whether the object was taken in this call: one that was held already stays held
+-- and nothing happens, and one that was taken is held. After a refusal nothing is held that wasn't.
+pub record IsHold {T C : Type 0} (body : T → C) (told : T → Option (List End))
+    (last spare : T → ℕ) (rests : T → Type 0) (o : ℕ) (result : Result Bool HoldFail)
     (old new : Transaction T) (before after : Shelving T) : Type 0 where
-  pub again : IsSome (held_object o old.held) → IsOk result × (new ≡ old) × (after ≡ before)
-  pub ok : OnOk result (held_object o old.held ≡ None
-      → HoldsMore body told last spare rests o old new before after)
+  pub again : (result ≡ Ok false) ↔ IsSome (held_object o old.held)
+  pub same : result ≡ Ok false → (new ≡ old) × (after ≡ before)
+  pub took : result ≡ Ok true → HoldsMore body told last spare rests o old new before after
   pub err : OnErr result (new ≡ old)
   pub left : IfErr result (λ fail. RefusalLeaves body told last fail o before after)

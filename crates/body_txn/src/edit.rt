@@ -1,9 +1,11 @@
 //! The edit of a held object.
 
 ghost use Rattle.std.specs.Prelude.{◌≡◌, ◌<◌, ◌-◌, ◌%◌, Err, Ok, IsSome, IsTrue, IfSome};
+ghost use Rattle.std.specs.Prelude.{false};
 ghost use Rattle.eos_ops.specs.Edits.{outcome_in};
 ghost use Rattle.eos_ops.specs.Objects.{reply_of};
 ghost use Rattle.object_body.specs.Form.{NamesThreshold};
+ghost use Rattle.object_body.specs.Memory.{EditMayTakeMemory};
 ghost use Rattle.object_body.specs.Places.{IsReady};
 ghost use Rattle.shadow_txn.specs.Acts.{edit_command, noted};
 ghost use Rattle.shadow_txn.specs.Held.{held_object};
@@ -70,6 +72,10 @@ impl<B: Body, H: Annals> Txn<B, H> {
             (noted H.tells (edit_command o edit.now) (edit_reply result)) self.old self.new) }
         ensures right { IsTrue B.P.S.tells → IsOwnRight (edit_reply result)
             (reply_of (outcome_in edit.now (working_at (at_body B.told) o self.old.held))) }
+
+        // Where no act is kept, memory is wanted only by an edit that may take some.
+        ensures memory { H.tells ≡ false → result ≡ Err TxnFail.Memory
+            → EditMayTakeMemory edit.now }
         ensures goes_on { GoesOn (at_annals H.told) (at_annals H.last) (frame_by B.form)
             (LegalBy B.P.S.tells H.told B.told) self.old self.new }
     {

@@ -21,13 +21,14 @@ use object_locks::Shelf;
 use shadow_txn::{Held, HoldFail, make_room, place_of};
 
 impl<B: Body, H: Annals> Txn<B, H> {
-    /// Takes object `o` from the shelf. An object that is held already stays so.
+    /// Takes object `o` from the shelf, and says whether it did: an object that is held already
+    /// stays so, and nothing happens.
     ///
     /// # Errors
     /// In this order: `NoObject` from the number of objects on, `Full` where as many are held as
     /// may be, `Busy` where the object is out, `Worn` where its last stamp is the last there is,
     /// `Memory` where there was none for its end. After each of them nothing is held that wasn't.
-    pub fn hold<X: Shelf<Object<B, H>>>(&mut self, shelf: &mut X, o: u64) -> Result<(), HoldFail>
+    pub fn hold<X: Shelf<Object<B, H>>>(&mut self, shelf: &mut X, o: u64) -> Result<bool, HoldFail>
         requires open { self.old.is_open ≡ true }
         requires serves { ServesTxn (at_annals H.told) (at_annals H.last) self.old
             (X.shelving shelf.old) }
@@ -46,7 +47,7 @@ impl<B: Body, H: Annals> Txn<B, H> {
             → KeepTerms (frame_by B.form) (LegalBy B.P.S.tells H.told B.told) t self.new.held }
     {
         if self.holds(o) {
-            return Ok(());
+            return Ok(false);
         }
         let number = self.admit(o)?;
         let object = take_ready(shelf, number)?;
@@ -55,7 +56,7 @@ impl<B: Body, H: Annals> Txn<B, H> {
             object,
             acts: Acts::new(self.alloc),
         });
-        Ok(())
+        Ok(true)
     }
 
     /// The number of an object that may be asked for.

@@ -1,6 +1,6 @@
 //! The bytes of a held object.
 
-ghost use Rattle.std.specs.Prelude.{◌≡◌, false, IsSome, IsTrue, IfSome};
+ghost use Rattle.std.specs.Prelude.{◌≡◌, ◌<◌, false, Err, IsSome, IsTrue, IfSome};
 ghost use Rattle.eos_ops.specs.declared.command.Command.TheVariants as command;
 ghost use Rattle.eos_ops.specs.Objects.{read_in};
 ghost use Rattle.shadow_txn.specs.Acts.{noted};
@@ -40,6 +40,9 @@ impl<B: Body, H: Annals> Txn<B, H> {
         ensures right { IsTrue B.P.S.tells
             → IsOwnRight (bytes_reply result)
             (read_in at len (working_at (at_body B.told) o self.old.held)) }
+
+        // Where no act is kept, a read of no byte wants no memory.
+        ensures memory { H.tells ≡ false → result ≡ Err TxnFail.Memory → 0 < len }
         ensures goes_on { GoesOn (at_annals H.told) (at_annals H.last) (frame_by B.form)
             (LegalBy B.P.S.tells H.told B.told) self.old self.new }
     {

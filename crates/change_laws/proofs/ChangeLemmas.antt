@@ -1,43 +1,42 @@
 -- A change that is laid out on granted pages leaves a good tree with its spare behind it, and uses what it was granted.
 use Rattle.std.proofs.Common.{◌≡◌, ℕ, ◌+◌, ◌-◌, ◌<◌, ◌≤◌, true, false, Option, Some, None, List, [], ◌∷◌, ◌++◌, length}
-use Rattle.std.proofs.Common.{map, take, drop, refl, sym, ap, subst, arith, ◌∙◌, ◌⊎◌, inl, inr}
+use Rattle.std.proofs.Common.{map, take, drop, refl, sym, ap, subst, arith, ◌∙◌, inl, inr}
 use Rattle.std.specs.Prelude.{if◌then◌else◌, is_some}
 use Rattle.std.specs.List.{AllByRecursion}
 use Rattle.std.proofs.lemmas.Bool.{false≢true}
 use Rattle.std.proofs.lemmas.List.Sums.{sum_by-cons}
-use Rattle.geometry_model.specs.Numbers.{Numbers, IsInRange, space_pages, fan_out}
+use Rattle.geometry_model.specs.Numbers.{Numbers, IsInRange, fan_out}
 use Rattle.geometry_model.specs.Pages.{first_page, is_data_page, place}
 use Rattle.geometry_model.proofs.NumberLaws.{fan_out-low}
 use Rattle.geometry_model.proofs.PageLaws.{IsPlace-in_run, place-of_IsPlace}
 use Rattle.tree_model.specs.declared.entry.Pair.{Pair}
-use Rattle.tree_model.specs.Tree.{page_count, IsSegment}
+use Rattle.tree_model.specs.Tree.{IsSegment}
 use Rattle.layout_model.specs.declared.extent.Extent.{Extent}
 use Rattle.layout_model.specs.declared.change.Change.{Change}
 use Rattle.layout_model.specs.declared.fit.Fit.{Fit}
 use Rattle.layout_model.specs.declared.fit.Fit.TheVariants.{Extend, Follow, Fresh}
 use Rattle.layout_model.specs.Pack.{Packed}
-use Rattle.layout_model.specs.Plan.{Plan, made_part_bytes, last_entry}
+use Rattle.layout_model.specs.Plan.{Plan, made_part_bytes}
 use Rattle.layout_model.specs.Levels.{entries_of_levels, nodes_of_levels, spliced, count_made}
-use Rattle.layout_model.specs.Grants.{Spaces, all_runs}
-use Rattle.layout_model.specs.Grants.Answer.{Got}
-use Rattle.layout_model.specs.Layout.{Tree, Grants, tree_entries, plan_of, wanted, requests, laid_parts, laid_entries}
-use Rattle.layout_model.specs.Layout.{spare_behind, spare_after, granted, laid}
+use Rattle.layout_model.specs.Layout.{Tree, Grants, tree_entries, plan_of, laid_parts, laid_entries}
+use Rattle.layout_model.specs.Layout.{spare_behind, spare_after, laid}
 use Rattle.layout_laws.proofs.LevelLemmas.{spliced-entries}
 use Rattle.moment_model.specs.Version.{IsGood, covers, uses, version_uses, spare_uses}
-use Rattle.moment_laws.specs.Granting.{LiesInSpace, AreSpaces, page_run, runs_of_parts, granted_runs}
-use Rattle.moment_laws.proofs.GrantLemmas.{granted-took, uses-append, covers-cases}
+use Rattle.moment_laws.specs.Granting.{LiesInSpace, page_run, runs_of_parts, granted_runs}
+use Rattle.moment_laws.proofs.GrantLemmas.{uses-append, covers-cases}
 use Rattle.change_laws.specs.Tail.{FollowsLast, IsTail}
 use Rattle.change_laws.specs.Laying.{IsChange, IsLaidOn}
+use Rattle.change_laws.specs.Suiting.{SuitPlan, IsSuited}
 use Rattle.change_laws.proofs.UsedLemmas.{parts-used}
 use Rattle.change_laws.proofs.UsedNodeLemmas.{spliced-used}
 use Rattle.change_laws.proofs.ShapeLemmas.{spliced-levels}
 use Rattle.change_laws.proofs.NodeCountLemmas.{made-alike}
 use Rattle.change_laws.proofs.NodeLemmas.{spliced-uses, spliced-data}
-use Rattle.change_laws.proofs.PartLemmas.{all-left, all-right}
+use Rattle.change_laws.proofs.PartLemmas.{all-right}
 use Rattle.change_laws.proofs.PieceLemmas.{segments_uses, segments_uses-append}
 use Rattle.change_laws.proofs.LayingLemmas.{spliced_entries}
-use Rattle.change_laws.proofs.PlannedLemmas.{follow-wanted, fresh-entries, fresh-spare, fresh-wanted, granted-is}
-use Rattle.change_laws.proofs.PlannedLemmas.{none-wanted, packed-object, planned-out}
+use Rattle.change_laws.proofs.PlannedLemmas.{fresh-entries, fresh-spare, packed-object, suited-out}
+use Rattle.change_laws.proofs.SuitLemmas.{fresh-suits, follow-suits, extend-suits}
 
 -- ---- the tree and the spare
 
@@ -60,28 +59,25 @@ pages-data n page (p ∷ ps) lie other =
     data-found n page at found = ap is_some found
 
 -- a change that is laid out on granted pages
-pub laid-on : (n : Numbers) (start : ℕ) (tree : Tree) (spare : Option Extent) (change : Change) (free left : Spaces)
+pub laid-on : (n : Numbers) (tree : Tree) (spare : Option Extent) (change : Change)
     (grants : Grants) → IsInRange n → IsGood n tree →
-    IsTail n (Some tree) spare → IsChange tree change → AreSpaces n free → granted n start tree spare change free ≡ Got grants left →
+    IsTail n (Some tree) spare → IsChange tree change → IsSuited n tree spare change grants →
     IsLaidOn n tree spare (granted_runs grants) (laid n tree spare change grants)
 unfolding laid
-laid-on n start tree spare change free left grants range good tail is are got =
+laid-on n tree spare change grants range good tail is suits =
     let plan = plan_of n tree spare change in
     let f = fan_out n in
     let wide = fan_out-low n range in
     let object = packed-object n tree range good in
     let entries = tree_entries tree in
-    let grant = granted-is n start tree spare change free left grants got in
-    let took = granted-took n start tree spare change free left grants are got in
-    let lie = all-left (LiesInSpace n) (runs_of_parts grants.runs) (map page_run grants.pages) took.together in
-    let lie_pages = all-right (LiesInSpace n) (runs_of_parts grants.runs) (map page_run grants.pages) took.together in
-    let lays = planned-out n start tree spare change free grant.mid grants.runs object tail is grant.runs lie in
+    let lie_pages = all-right (LiesInSpace n) (runs_of_parts grants.runs) (map page_run grants.pages) suits.together in
+    let lays = suited-out n tree spare change grants object tail is suits in
     let new = laid_entries n spare plan grants.runs in
     let levels = spliced f tree.levels plan.from plan.count new grants.pages in
     let new_entries : entries_of_levels (nodes_of_levels levels) ≡ spliced_entries entries plan.from plan.count new =
     spliced-entries f tree.levels plan.from plan.count new grants.pages (omega (arith, wide)) lays.inside in
     let alike = made-alike f tree.levels plan.from plan.count new grants.pages [] in
-    let count = grant.pages in
+    let count = suits.pages in
     let enough : count_made levels ≤ length grants.pages = omega (arith, alike, count) in
     let after = spare_after n spare change plan grants.runs in
     record {
@@ -130,62 +126,45 @@ laid-on n start tree spare change free left grants range good tail is are got =
 
 -- ---- what is granted is used
 
-extend-wanted : (n : Numbers) (tree : Tree) (change : Change) (plan : Plan) → plan.fit ≡ Extend → wanted n tree change plan ≡ []
-extend-wanted n tree change plan extend = rw (extend, wanted)
-
-fit_is : (f : Fit) → (f ≡ Fresh) ⊎ ((f ≡ Follow) ⊎ (f ≡ Extend))
-fit_is Extend = inr (inr refl)
-fit_is Follow = inr (inl refl)
-fit_is Fresh = inl refl
-
-runs-used : (page : ℕ) (n : Numbers) (start : ℕ) (tree : Tree) (spare : Option Extent) (change : Change)
-    (plan : Plan) (free mid : Spaces) (runs : List (List Extent)) → 0 < n.page →
-    all_runs n start tree.threshold (wanted n tree change plan) free ≡ Got runs mid →
+runs-used : (page : ℕ) (n : Numbers) (tree : Tree) (spare : Option Extent) (change : Change)
+    (plan : Plan) (runs : List (List Extent)) → 0 < n.page → SuitPlan n tree change plan runs →
     uses page (runs_of_parts runs)
     ≤ segments_uses page n.page (laid_entries n spare plan runs) + spare_uses page (spare_after n spare change plan runs)
-runs-used page n start tree spare change plan free mid runs some got =
-    let nothing : wanted n tree change plan ≡ [] → uses page (runs_of_parts runs) ≡ 0 = λ none.
-    ap (λ rs. uses page (runs_of_parts rs)) (none-wanted n start tree.threshold free mid runs
-    (ap (λ rs. all_runs n start tree.threshold rs free) (sym none) ∙ got)) in
-    elim (fit_is plan.fit) [
-      | inl fresh ↦
-          let last = page_count n.page (last_entry (tree_entries tree)).bytes in
-          let asked : all_runs n start tree.threshold (requests change.appends last (space_pages n)
-          (map (page_count n.page) (made_part_bytes plan.parts))) free ≡ Got runs mid =
-          ap (λ rs. all_runs n start tree.threshold rs free) (sym (fresh-wanted n tree change plan fresh)) ∙ got in
-          let used = parts-used page n start tree.threshold change.appends last (space_pages n) plan.parts free mid runs some asked in
-          let entries : segments_uses page n.page (laid_entries n spare plan runs)
-          ≡ segments_uses page n.page (laid_parts n.page plan.parts runs) =
-          ap (segments_uses page n.page) (fresh-entries n spare plan runs fresh) in
-          let left : spare_uses page (spare_after n spare change plan runs)
-          ≡ spare_uses page (if change.appends then spare_behind n.page (made_part_bytes plan.parts) runs else
-          None) = ap (spare_uses page) (fresh-spare n spare change plan runs fresh) in
-          omega (arith, used, entries, left)
-      | inr other ↦
-          elim other [
-            | inl follow ↦ let none = nothing (follow-wanted n tree change plan follow) in omega (arith, none)
-            | inr extend ↦ let none = nothing (extend-wanted n tree change plan extend) in omega (arith, none)
-          ]
-    ]
+runs-used page n tree spare change plan runs some suits = go plan.fit refl
+  where
+    nothing : runs ≡ [] → uses page (runs_of_parts runs) ≡ 0
+    nothing none = ap (λ rs. uses page (runs_of_parts rs)) none
+
+    go : (fit : Fit) → plan.fit ≡ fit →
+        uses page (runs_of_parts runs)
+        ≤ segments_uses page n.page (laid_entries n spare plan runs) + spare_uses page (spare_after n spare change plan runs)
+    go Fresh fresh =
+        let hold = fresh-suits n tree change plan runs fresh suits in
+        let used = parts-used page n.page tree.threshold change.appends plan.parts runs some hold.0 hold.1 in
+        let entries : segments_uses page n.page (laid_entries n spare plan runs)
+        ≡ segments_uses page n.page (laid_parts n.page plan.parts runs) =
+        ap (segments_uses page n.page) (fresh-entries n spare plan runs fresh) in
+        let left : spare_uses page (spare_after n spare change plan runs)
+        ≡ spare_uses page (if change.appends then spare_behind n.page (made_part_bytes plan.parts) runs else
+        None) = ap (spare_uses page) (fresh-spare n spare change plan runs fresh) in
+        omega (arith, used, entries, left)
+    go Follow follow = let none = nothing (follow-suits n tree change plan runs follow suits) in omega (arith, none)
+    go Extend extend = let none = nothing (extend-suits n tree change plan runs extend suits) in omega (arith, none)
 
 -- every granted page is used by what the change leaves
-pub granted-used : (n : Numbers) (start : ℕ) (tree : Tree) (spare : Option Extent) (change : Change)
-    (free left : Spaces) (grants : Grants) → IsInRange n → IsGood n tree →
-    IsTail n (Some tree) spare → IsChange tree change → AreSpaces n free →
-    granted n start tree spare change free ≡ Got grants left → (page : ℕ) →
+pub granted-used : (n : Numbers) (tree : Tree) (spare : Option Extent) (change : Change)
+    (grants : Grants) → IsInRange n → IsGood n tree →
+    IsTail n (Some tree) spare → IsChange tree change → IsSuited n tree spare change grants → (page : ℕ) →
     uses page (granted_runs grants)
     ≤ version_uses n page (Some (laid n tree spare change grants).tree) + spare_uses page (laid n tree spare change grants).spare
 unfolding laid
-granted-used n start tree spare change free left grants range good tail is are got page =
+granted-used n tree spare change grants range good tail is suits page =
     let plan = plan_of n tree spare change in
     let f = fan_out n in
     let wide = fan_out-low n range in
     let object = packed-object n tree range good in
     let entries = tree_entries tree in
-    let grant = granted-is n start tree spare change free left grants got in
-    let took = granted-took n start tree spare change free left grants are got in
-    let lie = all-left (LiesInSpace n) (runs_of_parts grants.runs) (map page_run grants.pages) took.together in
-    let lays = planned-out n start tree spare change free grant.mid grants.runs object tail is grant.runs lie in
+    let lays = suited-out n tree spare change grants object tail is suits in
     let new = laid_entries n spare plan grants.runs in
     let levels = spliced f tree.levels plan.from plan.count new grants.pages in
     let new_entries : entries_of_levels (nodes_of_levels levels) ≡ spliced_entries entries plan.from plan.count new =
@@ -195,8 +174,8 @@ granted-used n start tree spare change free left grants range good tail is are g
     ap (segments_uses page n.page) new_entries in
     let outer = segments_uses-append page n.page (take plan.from entries) (new ++ drop (plan.from + plan.count) entries) in
     let inner = segments_uses-append page n.page new (drop (plan.from + plan.count) entries) in
-    let runs = runs-used page n start tree spare change plan free grant.mid grants.runs object.page grant.runs in
+    let runs = runs-used page n tree spare change plan grants.runs object.page suits.runs in
     let nodes = spliced-used page f tree.levels plan.from plan.count new grants.pages
-    (made-alike f tree.levels plan.from plan.count new grants.pages [] ∙ sym grant.pages) in
+    (made-alike f tree.levels plan.from plan.count new grants.pages [] ∙ sym suits.pages) in
     let all = uses-append page (runs_of_parts grants.runs) (map page_run grants.pages) in
     omega (arith, moved, outer, inner, runs, nodes, all)

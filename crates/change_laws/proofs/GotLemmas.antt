@@ -12,7 +12,8 @@ use Rattle.layout_model.specs.Grants.{Spaces, Answer, and_then, or_else, run_of,
 use Rattle.layout_model.specs.Grants.{node_pages}
 use Rattle.layout_model.specs.Grants.Answer.{Got, Refused}
 use Rattle.layout_model.specs.Layout.{requests}
-use Rattle.layout_laws.specs.Halving.{runs_pages, AreHalves}
+use Rattle.layout_laws.specs.Halving.{runs_pages}
+use Rattle.change_laws.specs.Suiting.{HoldsPart, AllHold, AllExact}
 use Rattle.layout_laws.proofs.HalvingLemmas.{halved-halves, alone_cases, no_grant, got_same}
 
 -- ---- answers
@@ -30,13 +31,6 @@ or_else-got (Got first mid) other value left got = inl got
 or_else-got (Refused pages) other value left got = inr (pages, got)
 
 -- ---- runs for a part
-
--- the runs of a part of so many bytes: one that has their pages, or several of the threshold's pages each, with just
--- their pages
-abbrev pub HoldsPart : ℕ → ℕ → ℕ → List Extent → Type 0
-HoldsPart size least bytes runs =
-    ((run : Extent) × (runs ≡ run ∷ []) × (page_count size bytes ≤ run.pages))
-    ⊎ ((least ≤ page_count size bytes) × AreHalves least (page_count size bytes) runs)
 
 -- so many pages as one run
 alone-got : (n : Numbers) (start pages : ℕ) (spaces left : Spaces) (runs : List Extent) →
@@ -106,12 +100,6 @@ exact-got n start least bytes spaces left runs got =
           ]
     ]
 
--- runs for numbers of bytes, one after the other
-abbrev pub AllHold : ℕ → ℕ → List ℕ → List (List Extent) → Type 0
-AllHold size least [] runs = Unit {0}
-AllHold size least (bytes ∷ rest) [] = ⊥
-AllHold size least (bytes ∷ rest) (run ∷ runs) = HoldsPart size least bytes run × AllHold size least rest runs
-
 pub want-enough : (b : Bool) (need last limit : ℕ) → need ≤ (if b then ask_of need last limit else need)
 want-enough true need last limit = omega arith
 want-enough false need last limit = omega arith
@@ -148,6 +136,57 @@ all_runs-hold n start least appends last limit (bytes ∷ next ∷ ns) spaces le
   where
     got_all : (x y : List (List Extent)) (left rest : Spaces) → Got x left ≡ Got y rest → x ≡ y
     got_all x y left rest same = cc
+
+-- what all parts were granted
+pub all_runs-exact : (n : Numbers) (start least : ℕ) (appends : Bool) (last limit : ℕ) (ns : List ℕ)
+    (spaces left : Spaces) (runs : List (List Extent)) →
+    all_runs n start least (requests appends last limit (map (page_count n.page) ns)) spaces ≡ Got runs left →
+    AllExact n.page appends ns runs
+all_runs-exact n start least appends last limit [] spaces left runs got = sym (got_all [] runs spaces left got)
+  where
+    got_all : (x y : List (List Extent)) (left rest : Spaces) → Got x left ≡ Got y rest → x ≡ y
+    got_all x y left rest same = cc
+all_runs-exact n start least true last limit (bytes ∷ []) spaces left runs got =
+    let need = page_count n.page bytes in
+    let want = ask_of need last limit in
+    let request : Request = record { want = want; need = need } in
+    let first = and_then-got (part_runs n start least request spaces)
+    (λ one mid. and_then (all_runs n start least [] mid) (λ more rest. Got (one ∷ more) rest)) runs left got in
+    let shape : first.0 ∷ [] ≡ runs = got_all (first.0 ∷ []) runs first.1 left first.3 in
+    subst (AllExact n.page true (bytes ∷ [])) shape
+    refl
+  where
+    got_all : (x y : List (List Extent)) (left rest : Spaces) → Got x left ≡ Got y rest → x ≡ y
+    got_all x y left rest same = cc
+all_runs-exact n start least false last limit (bytes ∷ []) spaces left runs got =
+    let need = page_count n.page bytes in
+    let request : Request = record { want = need; need = need } in
+    let first = and_then-got (part_runs n start least request spaces)
+    (λ one mid. and_then (all_runs n start least [] mid) (λ more rest. Got (one ∷ more) rest)) runs left got in
+    let shape : first.0 ∷ [] ≡ runs = got_all (first.0 ∷ []) runs first.1 left first.3 in
+    subst (AllExact n.page false (bytes ∷ [])) shape (exact-got n start least bytes spaces first.1 first.0 first.2, refl)
+  where
+    got_all : (x y : List (List Extent)) (left rest : Spaces) → Got x left ≡ Got y rest → x ≡ y
+    got_all x y left rest same = cc
+all_runs-exact n start least appends last limit (bytes ∷ next ∷ ns) spaces left runs got =
+    let need = page_count n.page bytes in
+    let request : Request = record { want = need; need = need } in
+    let others = requests appends last limit (map (page_count n.page) (next ∷ ns)) in
+    let first = and_then-got (part_runs n start least request spaces)
+    (λ one mid. and_then (all_runs n start least others mid) (λ more rest. Got (one ∷ more) rest)) runs left got in
+    let second = and_then-got (all_runs n start least others first.1) (λ more rest. Got (first.0 ∷ more) rest) runs left first.3 in
+    let shape : first.0 ∷ second.0 ≡ runs = got_all (first.0 ∷ second.0) runs second.1 left second.3 in
+    go appends shape (exact-got n start least bytes spaces first.1 first.0 first.2)
+    (all_runs-exact n start least appends last limit (next ∷ ns) first.1 second.1 second.0 second.2)
+  where
+    got_all : (x y : List (List Extent)) (left rest : Spaces) → Got x left ≡ Got y rest → x ≡ y
+    got_all x y left rest same = cc
+
+    go : (appends : Bool) {run : List Extent} {more : List (List Extent)} → run ∷ more ≡ runs →
+        runs_pages run ≡ page_count n.page bytes → AllExact n.page appends (next ∷ ns) more →
+        AllExact n.page appends (bytes ∷ next ∷ ns) runs
+    go true shape one more = subst (AllExact n.page true (bytes ∷ next ∷ ns)) shape (one, more)
+    go false shape one more = subst (AllExact n.page false (bytes ∷ next ∷ ns)) shape (one, more)
 
 -- as many node pages as were asked for
 pub node_pages-count : (n : Numbers) (start count : ℕ) (spaces left : Spaces) (pages : List ℕ) →

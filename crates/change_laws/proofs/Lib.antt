@@ -11,6 +11,7 @@ pub mod GotLemmas
 pub mod SegmentLemmas
 pub mod AppendLemmas
 pub mod LayingLemmas
+pub mod SuitLemmas
 pub mod UsedNodeLemmas
 pub mod UsedLemmas
 pub mod PlannedLemmas

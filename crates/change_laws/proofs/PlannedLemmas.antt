@@ -1,6 +1,6 @@
 -- The plan of a change, laid out on the runs that it was granted or on the spare.
 use Rattle.std.proofs.Common.{◌≡◌, ℕ, ◌+◌, ◌*◌, ◌<◌, ◌≤◌, min, Bool, true, Option, Some, None, List, [], ◌∷◌, ◌++◌}
-use Rattle.std.proofs.Common.{length, map, take, drop, refl, sym, ap, subst, arith, ◌∙◌, ◌⊎◌, inl, inr}
+use Rattle.std.proofs.Common.{map, take, drop, refl, sym, ap, subst, arith, ◌∙◌, ◌⊎◌, inl, inr}
 use Rattle.std.specs.Prelude.{if◌then◌else◌}
 use Rattle.std.specs.List.{AllByRecursion}
 use Rattle.std.proofs.lemmas.Bool.{cases_Bool}
@@ -19,47 +19,20 @@ use Rattle.layout_model.specs.Parts.{parts_of}
 use Rattle.layout_model.specs.Pack.{pack}
 use Rattle.layout_model.specs.Plan.{Plan, extent_pages, past, made_part_bytes, fit_appended, plan_extended, planned}
 use Rattle.layout_model.specs.Plan.{last_entry}
-use Rattle.layout_model.specs.Levels.{count_made}
-use Rattle.layout_model.specs.Grants.{Spaces, and_then, all_runs, node_pages}
-use Rattle.layout_model.specs.Grants.Answer.{Got}
-use Rattle.layout_model.specs.Layout.{Tree, Grants, tree_entries, plan_of, wanted, requests, laid_parts, as_run}
-use Rattle.layout_model.specs.Layout.{laid_entries, spare_behind, spare_after, laid_levels, granted}
-use Rattle.layout_laws.proofs.HalvingLemmas.{got_same}
+use Rattle.layout_model.specs.Layout.{Tree, Grants, tree_entries, plan_of, laid_parts, as_run}
+use Rattle.layout_model.specs.Layout.{laid_entries, spare_behind, spare_after}
 use Rattle.tree_model.proofs.PageCountLaws.{count-min, count-some}
 use Rattle.moment_model.specs.Version.{IsGood, covers, uses, spare_uses}
-use Rattle.moment_laws.specs.Granting.{LiesInSpace, runs_of_parts}
+use Rattle.moment_laws.specs.Granting.{LiesInSpace, page_run, runs_of_parts}
 use Rattle.change_laws.specs.Tail.{FollowsLast, IsTail}
 use Rattle.change_laws.specs.Laying.{IsChange}
+use Rattle.change_laws.specs.Suiting.{SuitPlan, IsSuited}
 use Rattle.change_laws.proofs.PartLemmas.{GoodPart, all-left, all-right, segments-have, plan-good}
 use Rattle.change_laws.proofs.SegmentLemmas.{Matched, matched-from}
-use Rattle.change_laws.proofs.GotLemmas.{and_then-got, all_runs-hold, node_pages-count}
+use Rattle.change_laws.proofs.SuitLemmas.{fresh-suits}
 use Rattle.change_laws.proofs.AppendLemmas.{Appended, appended-plan}
 use Rattle.change_laws.proofs.LayingLemmas.{Laying, IsPackedObject, merged_plan, merged-laying, extended-laying}
 use Rattle.change_laws.proofs.LayingLemmas.{fit-cases, extend-means}
-
--- ---- what was granted
-
--- the runs of the parts, and as many node pages as nodes are made
-pub record IsGranted (n : Numbers) (start : ℕ) (tree : Tree) (spare : Option Extent) (change : Change)
-    (free : Spaces) (grants : Grants) : Type 0 where
-  pub mid : Spaces
-  pub runs : all_runs n start tree.threshold (wanted n tree change (plan_of n tree spare change)) free ≡ Got grants.runs mid
-  pub pages : length grants.pages ≡ count_made (laid_levels n tree spare (plan_of n tree spare change) grants.runs [])
-
-pub granted-is : (n : Numbers) (start : ℕ) (tree : Tree) (spare : Option Extent) (change : Change) (free left : Spaces) (grants : Grants) →
-    granted n start tree spare change free ≡ Got grants left → IsGranted n start tree spare change free grants
-unfolding granted
-granted-is n start tree spare change free left grants got =
-    let plan = plan_of n tree spare change in
-    let first = and_then-got (all_runs n start tree.threshold (wanted n tree change plan) free)
-    (λ runs mid. and_then (node_pages n start (count_made (laid_levels n tree spare plan runs [])) mid)
-    (λ pages rest. Got (record { runs = runs; pages = pages }) rest)) grants left got in
-    let second = and_then-got (node_pages n start (count_made (laid_levels n tree spare plan first.0 [])) first.1)
-    (λ pages rest. Got (record { runs = first.0; pages = pages }) rest) grants left first.3 in
-    let whole : Grants = record { runs = first.0; pages = second.0 } in
-    let same : whole ≡ grants = got_same whole grants second.1 left second.3 in
-    let count = node_pages-count n start (count_made (laid_levels n tree spare plan first.0 [])) first.1 second.1 second.0 second.2 in
-    subst (IsGranted n start tree spare change free) same (record { mid = first.1; runs = first.2; pages = count })
 
 -- ---- the plan of a change, laid out
 
@@ -97,16 +70,11 @@ LaysOut n tree spare change plan runs =
     Laying n tree.threshold (tree_entries tree) spare plan.from plan.count (laid_entries n spare plan runs)
     (runs_of_parts runs) (spare_after n spare change plan runs)
 
--- no run is asked for where the new bytes stand on the spare
-pub none-wanted : (n : Numbers) (start threshold : ℕ) (free mid : Spaces) (runs : List (List Extent)) →
-    all_runs n start threshold [] free ≡ Got runs mid → runs ≡ []
-none-wanted n start threshold free mid runs got = sym (got_same [] runs free mid got)
-
-extended-out : (n : Numbers) (start : ℕ) (tree : Tree) (spare : Option Extent) (change : Change) (free mid : Spaces)
-    (runs : List (List Extent)) → IsPackedObject n tree.threshold (tree_entries tree) →
+extended-out : (n : Numbers) (tree : Tree) (spare : Option Extent) (change : Change) (runs : List (List Extent)) →
+    IsPackedObject n tree.threshold (tree_entries tree) →
     IsTail n (Some tree) spare → IsChange tree change → fit_appended n.page (tree_entries tree) (extent_pages spare) change ≡ Extend →
-    all_runs n start tree.threshold [] free ≡ Got runs mid → LaysOut n tree spare change (plan_extended (tree_entries tree) change) runs
-extended-out n start tree spare change free mid runs object tail is fit got =
+    runs ≡ [] → LaysOut n tree spare change (plan_extended (tree_entries tree) change) runs
+extended-out n tree spare change runs object tail is fit none =
     let means = extend-means n.page (tree_entries tree) (extent_pages spare) change fit in
     let end = is.at_end means.2 in
     let nothing = end.1 in
@@ -114,7 +82,6 @@ extended-out n start tree spare change free mid runs object tail is fit got =
     let some : 0 < change.added = omega (arith, nothing, bring) in
     let any = count-some n.page change.added object.page some in
     let run = some-run n tree spare (page_count n.page change.added) tail (omega (arith, any)) means.0 in
-    let none = none-wanted n start tree.threshold free mid runs got in
     let laying = extended-laying n tree.threshold (tree_entries tree) run.0 change object run.3 means.1 run.2 in
     subst (λ (rs : List (List Extent)). LaysOut n tree spare change (plan_extended (tree_entries tree) change) rs) (sym none)
     (subst (λ (sp : Option Extent). LaysOut n tree sp change (plan_extended (tree_entries tree) change) []) (sym run.1) laying)
@@ -136,14 +103,6 @@ follow-spare : (n : Numbers) (spare : Option Extent) (change : Change) (plan : P
     spare_after n spare change plan runs ≡ past (page_count n.page (last_entry (laid_parts n.page plan.parts (as_run spare))).bytes) spare
 follow-spare n spare change plan runs follow = rw (follow, spare_after)
 
-pub fresh-wanted : (n : Numbers) (tree : Tree) (change : Change) (plan : Plan) → plan.fit ≡ Fresh →
-    wanted n tree change plan ≡ requests change.appends (page_count n.page (last_entry (tree_entries tree)).bytes)
-    (space_pages n) (map (page_count n.page) (made_part_bytes plan.parts))
-fresh-wanted n tree change plan fresh = rw (fresh, wanted)
-
-pub follow-wanted : (n : Numbers) (tree : Tree) (change : Change) (plan : Plan) → plan.fit ≡ Follow → wanted n tree change plan ≡ []
-follow-wanted n tree change plan follow = rw (follow, wanted)
-
 -- an append by its numbers
 appended : (n : Numbers) (tree : Tree) (change : Change) (pages : ℕ) →
     IsPackedObject n tree.threshold (tree_entries tree) → IsChange tree change → change.appends ≡ true →
@@ -155,23 +114,18 @@ appended n tree change pages object is append =
     appended-plan n.page tree.threshold (space_pages n * n.page) pages (tree_entries tree) change
     (segments-have n (tree_entries tree) object.segments) end.0 end.1
 
-merged-fresh : (n : Numbers) (start : ℕ) (tree : Tree) (spare : Option Extent) (change : Change) (free mid : Spaces)
+merged-fresh : (n : Numbers) (tree : Tree) (spare : Option Extent) (change : Change)
     (runs : List (List Extent)) → IsPackedObject n tree.threshold (tree_entries tree) →
     IsChange tree change → (merged_plan n tree.threshold (tree_entries tree) (extent_pages spare) change).fit ≡ Fresh →
-    all_runs n start tree.threshold (wanted n tree change (merged_plan n tree.threshold (tree_entries tree)
-    (extent_pages spare) change)) free ≡ Got runs mid →
+    SuitPlan n tree change (merged_plan n tree.threshold (tree_entries tree) (extent_pages spare) change) runs →
     AllByRecursion (LiesInSpace n) (runs_of_parts runs) →
     LaysOut n tree spare change (merged_plan n tree.threshold (tree_entries tree)
     (extent_pages spare) change) runs
-merged-fresh n start tree spare change free mid runs object is fresh got lie =
+merged-fresh n tree spare change runs object is fresh suits lie =
     let entries = tree_entries tree in
     let plan = merged_plan n tree.threshold entries (extent_pages spare) change in
-    let last = page_count n.page (last_entry entries).bytes in
-    let asked : all_runs n start tree.threshold (requests change.appends last (space_pages n)
-    (map (page_count n.page) (made_part_bytes plan.parts))) free ≡ Got runs mid =
-    ap (λ rs. all_runs n start tree.threshold rs free) (sym (fresh-wanted n tree change plan fresh)) ∙ got in
-    let hold = all_runs-hold n start tree.threshold change.appends last (space_pages n) (made_part_bytes plan.parts) free mid runs asked in
-    let matched = matched-from n.page tree.threshold plan.parts runs hold in
+    let hold = fresh-suits n tree change plan runs fresh suits in
+    let matched = matched-from n.page tree.threshold plan.parts runs hold.0 in
     let after = spare_after n spare change plan runs in
     let after_is = fresh-spare n spare change plan runs fresh in
     let left : (after ≡ None) ⊎ ((after ≡ spare_behind n.page (made_part_bytes plan.parts) runs)
@@ -233,8 +187,8 @@ followed n tree spare change bytes object tail is append one fits =
           (subst (Matched n.page tree.threshold (Make bytes ∷ [])) (sym placed) (inl (run.0, refl, run.2), tt));
     }
 
-merged-follow : (n : Numbers) (start : ℕ) (tree : Tree) (spare : Option Extent) (change : Change)
-    (free mid : Spaces) (runs : List (List Extent)) (bytes : ℕ) →
+merged-follow : (n : Numbers) (tree : Tree) (spare : Option Extent) (change : Change)
+    (runs : List (List Extent)) (bytes : ℕ) →
     IsPackedObject n tree.threshold (tree_entries tree) →
     IsTail n (Some tree) spare → IsChange tree change →
     (merged_plan n tree.threshold (tree_entries tree) (extent_pages spare) change).fit ≡ Follow →
@@ -242,15 +196,12 @@ merged-follow : (n : Numbers) (start : ℕ) (tree : Tree) (spare : Option Extent
     made_part_bytes (pack n.page tree.threshold (parts_of n.page (space_pages n * n.page)
     (tree_entries tree) change.at change.removed change.added)) ≡ bytes ∷ [] →
     page_count n.page bytes ≤ extent_pages spare →
-    all_runs n start tree.threshold (wanted n tree change (merged_plan n tree.threshold (tree_entries tree)
-    (extent_pages spare) change)) free ≡ Got runs mid →
+    SuitPlan n tree change (merged_plan n tree.threshold (tree_entries tree) (extent_pages spare) change) runs →
     LaysOut n tree spare change (merged_plan n tree.threshold (tree_entries tree) (extent_pages spare) change) runs
-merged-follow n start tree spare change free mid runs bytes object tail is follow append one fits got =
+merged-follow n tree spare change runs bytes object tail is follow append one fits suits =
     let entries = tree_entries tree in
     let plan = merged_plan n tree.threshold entries (extent_pages spare) change in
     let appends = appended n tree change (extent_pages spare) object is append in
-    let none = none-wanted n start tree.threshold free mid runs (ap (λ rs. all_runs n start tree.threshold rs free)
-    (sym (follow-wanted n tree change plan follow)) ∙ got) in
     let follows = followed n tree spare change bytes object tail is append one fits in
     let parts = follows.parts in
     let matched = follows.matched in
@@ -285,43 +236,42 @@ merged-follow n start tree spare change free mid runs bytes object tail is follo
     after) (sym (follow-entries n spare plan runs follow)) laying
 
 -- the plan of a change
-pub planned-out : (n : Numbers) (start : ℕ) (tree : Tree) (spare : Option Extent) (change : Change)
-    (free mid : Spaces) (runs : List (List Extent)) → IsPackedObject n tree.threshold (tree_entries tree) →
-    IsTail n (Some tree) spare → IsChange tree change →
-    all_runs n start tree.threshold (wanted n tree change (plan_of n tree spare change)) free ≡ Got runs mid →
+pub planned-out : (n : Numbers) (tree : Tree) (spare : Option Extent) (change : Change)
+    (runs : List (List Extent)) → IsPackedObject n tree.threshold (tree_entries tree) →
+    IsTail n (Some tree) spare → IsChange tree change → SuitPlan n tree change (plan_of n tree spare change) runs →
     AllByRecursion (LiesInSpace n) (runs_of_parts runs) → LaysOut n tree spare change (plan_of n tree spare change) runs
 unfolding planned
-planned-out n start tree spare change free mid runs object tail is got lie =
-    go (fit_appended n.page entries (extent_pages spare) change) refl got
+planned-out n tree spare change runs object tail is suits lie =
+    go (fit_appended n.page (tree_entries tree) (extent_pages spare) change) refl suits
   where
-    entries : List Pair
-    entries = tree_entries tree
-
-    merged : Plan
-    merged = merged_plan n tree.threshold (tree_entries tree) (extent_pages spare) change
-
-    by_merging : all_runs n start tree.threshold
-        (wanted n tree change (merged_plan n tree.threshold (tree_entries tree) (extent_pages spare) change)) free
-        ≡ Got runs mid →
+    by_merging : SuitPlan n tree change (merged_plan n tree.threshold (tree_entries tree) (extent_pages spare) change) runs →
         LaysOut n tree spare change (merged_plan n tree.threshold (tree_entries tree) (extent_pages spare) change) runs
-    by_merging asked =
+    by_merging suited =
         let packed = pack n.page tree.threshold (parts_of n.page (space_pages n * n.page)
         (tree_entries tree) change.at change.removed change.added) in
         elim (fit-cases n.page change.appends (extent_pages spare) (made_part_bytes packed)) [
-          | inl fresh ↦ merged-fresh n start tree spare change free mid runs object is fresh asked lie
-          | inr follow ↦ merged-follow n start tree spare change free mid runs follow.2.0 object tail is follow.0
-              follow.1 follow.2.1 follow.2.2 asked
+          | inl fresh ↦ merged-fresh n tree spare change runs object is fresh suited lie
+          | inr follow ↦ merged-follow n tree spare change runs follow.2.0 object tail is follow.0
+              follow.1 follow.2.1 follow.2.2 suited
         ]
 
     go : (fit : Fit) → fit_appended n.page (tree_entries tree) (extent_pages spare) change ≡ fit →
-        all_runs n start tree.threshold (wanted n tree change (elim fit [
+        SuitPlan n tree change (elim fit [
           | Extend ↦ plan_extended (tree_entries tree) change
           | _ ↦ merged_plan n tree.threshold (tree_entries tree) (extent_pages spare) change
-        ])) free ≡ Got runs mid →
+        ]) runs →
         LaysOut n tree spare change (elim fit [
           | Extend ↦ plan_extended (tree_entries tree) change
           | _ ↦ merged_plan n tree.threshold (tree_entries tree) (extent_pages spare) change
         ]) runs
-    go Extend fit asked = extended-out n start tree spare change free mid runs object tail is fit asked
-    go Follow fit asked = by_merging asked
-    go Fresh fit asked = by_merging asked
+    go Extend fit suited = extended-out n tree spare change runs object tail is fit suited
+    go Follow fit suited = by_merging suited
+    go Fresh fit suited = by_merging suited
+
+-- where grants suit a change, its plan is laid out on them
+pub suited-out : (n : Numbers) (tree : Tree) (spare : Option Extent) (change : Change) (grants : Grants) →
+    IsPackedObject n tree.threshold (tree_entries tree) → IsTail n (Some tree) spare → IsChange tree change →
+    IsSuited n tree spare change grants → LaysOut n tree spare change (plan_of n tree spare change) grants.runs
+suited-out n tree spare change grants object tail is suits =
+    planned-out n tree spare change grants.runs object tail is suits.runs
+    (all-left (LiesInSpace n) (runs_of_parts grants.runs) (map page_run grants.pages) suits.together)

@@ -29,7 +29,7 @@ use Rattle.change_laws.proofs.PartLemmas.{GoodPart, keeps, all-left, all-right}
 use Rattle.change_laws.proofs.PieceLemmas.{segments_uses, segments_uses-cons, segments_uses-append, covers-two}
 use Rattle.change_laws.proofs.PieceLemmas.{covers-front}
 use Rattle.change_laws.proofs.NeighbourLemmas.{both, FirstApart, apart-cons, apart-first, apart-rest}
-use Rattle.change_laws.proofs.GotLemmas.{AllHold, HoldsPart}
+use Rattle.change_laws.specs.Suiting.{AllHold, HoldsPart}
 
 -- ---- segments on runs
 

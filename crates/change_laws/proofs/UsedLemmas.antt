@@ -1,27 +1,23 @@
 -- The runs that are granted for parts are used by the new segments and the new spare.
 use Rattle.std.proofs.Common.{◌≡◌, ℕ, ◌+◌, ◌-◌, ◌*◌, ◌<◌, ◌≤◌, min, Bool, true, false, Option, Some, None, List, []}
-use Rattle.std.proofs.Common.{◌∷◌, map, refl, sym, ap, subst, arith, inl, inr, nat_eq}
+use Rattle.std.proofs.Common.{◌∷◌, map, sym, ap, subst, arith, inl, inr, nat_eq}
 use Rattle.std.specs.Prelude.{if◌then◌else◌}
 use Rattle.std.proofs.lemmas.Bool.{cases_Bool, eqb-true}
 use Rattle.std.proofs.lemmas.List.Sums.{sum_by-cons}
-use Rattle.geometry_model.specs.Numbers.{Numbers}
 use Rattle.tree_model.specs.declared.entry.Pair.{Pair}
 use Rattle.tree_model.specs.Tree.{page_count}
 use Rattle.layout_model.specs.declared.extent.Extent.{Extent}
 use Rattle.layout_model.specs.declared.part.Part.{Part}
 use Rattle.layout_model.specs.declared.part.Part.TheVariants.{Keep, Make}
-use Rattle.layout_model.specs.declared.request.Request.{Request}
-use Rattle.layout_model.specs.Plan.{past, ask_of, made_part_bytes}
-use Rattle.layout_model.specs.Grants.{Spaces, and_then, part_runs, all_runs}
-use Rattle.layout_model.specs.Grants.Answer.{Got}
-use Rattle.layout_model.specs.Layout.{requests, segments_on, laid_parts, left_over, spare_behind}
+use Rattle.layout_model.specs.Plan.{past, made_part_bytes}
+use Rattle.layout_model.specs.Layout.{segments_on, laid_parts, left_over, spare_behind}
 use Rattle.layout_laws.specs.Halving.{runs_pages}
 use Rattle.tree_model.proofs.PageCountLaws.{count-min}
 use Rattle.moment_model.specs.Version.{covers, uses, segment_run, spare_uses}
 use Rattle.moment_laws.specs.Granting.{runs_of_parts}
 use Rattle.moment_laws.proofs.GrantLemmas.{uses-append, covers-cases}
 use Rattle.change_laws.proofs.PieceLemmas.{segments_uses, segments_uses-cons, segments_uses-append}
-use Rattle.change_laws.proofs.GotLemmas.{and_then-got, part-got, HoldsPart, want-enough, exact-got}
+use Rattle.change_laws.specs.Suiting.{HoldsPart, AllHold, AllExact}
 use Rattle.change_laws.proofs.SegmentLemmas.{count-minus}
 use Rattle.change_laws.proofs.LayingLemmas.{covers-split}
 
@@ -101,54 +97,45 @@ last-used page size least bytes runs some (inl single) =
               omega (arith, same)
         ]
 
--- runs for numbers of bytes: each has just the pages of its part, but the last one of an append
-abbrev AllExact : ℕ → ℕ → Bool → List ℕ → List (List Extent) → Type 0
-AllExact size least appends [] runs = runs ≡ []
-AllExact size least appends (bytes ∷ ns) [] = ⊥
-AllExact size least true (bytes ∷ []) (run ∷ runs) = HoldsPart size least bytes run × (runs ≡ [])
-AllExact size least false (bytes ∷ []) (run ∷ runs) = (runs_pages run ≡ page_count size bytes) × (runs ≡ [])
-AllExact size least appends (bytes ∷ next ∷ ns) (run ∷ runs) = (runs_pages run ≡ page_count size bytes)
-    × AllExact size least appends (next ∷ ns) runs
-
 -- what is left of the last run of an append
 abbrev left_of_last : ℕ → Bool → List ℕ → List (List Extent) → Option Extent
 left_of_last size appends ns runs = if appends then spare_behind size ns runs else None
 
 -- the runs of made parts are used
 made-used : (page size least : ℕ) (appends : Bool) (ns : List ℕ) (runs : List (List Extent)) → 0 < size →
-    AllExact size least appends ns runs →
+    AllHold size least ns runs → AllExact size appends ns runs →
     uses page (runs_of_parts runs)
     ≤ segments_uses page size (laid_parts size (map Make ns) runs) + spare_uses page (left_of_last size appends ns runs)
-made-used page size least appends [] runs some exact = let none : uses page (runs_of_parts runs) ≡ 0 =
+made-used page size least appends [] runs some hold exact = let none : uses page (runs_of_parts runs) ≡ 0 =
     ap (λ rs. uses page (runs_of_parts rs)) exact in omega (arith, none)
-made-used page size least appends (bytes ∷ ns) [] some exact = absurd exact
-made-used page size least true (bytes ∷ []) (run ∷ []) some exact =
-    let last = last-used page size least bytes run some exact.0 in
+made-used page size least appends (bytes ∷ ns) [] some hold exact = absurd exact
+made-used page size least true (bytes ∷ []) (run ∷ []) some hold exact =
+    let last = last-used page size least bytes run some hold.0 in
     let one = uses-append page run [] in
     let two = segments_uses-append page size (segments_on size bytes run) [] in
     omega (arith, last, one, two)
-made-used page size least true (bytes ∷ []) (run ∷ run2 ∷ runs) some exact = absurd (many run2 runs exact.1)
+made-used page size least true (bytes ∷ []) (run ∷ run2 ∷ runs) some hold exact = absurd (many run2 runs exact)
   where
     many : (x : List Extent) (xs : List (List Extent)) → x ∷ xs ≡ [] → ⊥
     many x xs same = cc
-made-used page size least false (bytes ∷ []) (run ∷ runs) some exact =
+made-used page size least false (bytes ∷ []) (run ∷ runs) some hold exact =
     let pages = exact.0 in
     let full = full-used page size bytes run some (omega (arith, pages)) in
     let one = uses-append page run (runs_of_parts runs) in
     let rest : uses page (runs_of_parts runs) ≡ 0 = ap (λ rs. uses page (runs_of_parts rs)) exact.1 in
     let two = segments_uses-append page size (segments_on size bytes run) [] in
     omega (arith, full, one, rest, two)
-made-used page size least true (bytes ∷ next ∷ ns) (run ∷ runs) some exact =
+made-used page size least true (bytes ∷ next ∷ ns) (run ∷ runs) some hold exact =
     let pages = exact.0 in
     let full = full-used page size bytes run some (omega (arith, pages)) in
-    let more = made-used page size least true (next ∷ ns) runs some exact.1 in
+    let more = made-used page size least true (next ∷ ns) runs some hold.1 exact.1 in
     let one = uses-append page run (runs_of_parts runs) in
     let two = segments_uses-append page size (segments_on size bytes run) (laid_parts size (map Make (next ∷ ns)) runs) in
     omega (arith, full, more, one, two)
-made-used page size least false (bytes ∷ next ∷ ns) (run ∷ runs) some exact =
+made-used page size least false (bytes ∷ next ∷ ns) (run ∷ runs) some hold exact =
     let pages = exact.0 in
     let full = full-used page size bytes run some (omega (arith, pages)) in
-    let more = made-used page size least false (next ∷ ns) runs some exact.1 in
+    let more = made-used page size least false (next ∷ ns) runs some hold.1 exact.1 in
     let one = uses-append page run (runs_of_parts runs) in
     let two = segments_uses-append page size (segments_on size bytes run) (laid_parts size (map Make (next ∷ ns)) runs) in
     omega (arith, full, more, one, two)
@@ -169,65 +156,12 @@ laid-made page size (Make bytes ∷ rest) (run ∷ runs) =
     let two = segments_uses-append page size (segments_on size bytes run) (laid_parts size rest runs) in
     omega (arith, more, one, two)
 
--- what all parts were granted
-all_runs-exact : (n : Numbers) (start least : ℕ) (appends : Bool) (last limit : ℕ) (ns : List ℕ)
-    (spaces left : Spaces) (runs : List (List Extent)) →
-    all_runs n start least (requests appends last limit (map (page_count n.page) ns)) spaces ≡ Got runs left →
-    AllExact n.page least appends ns runs
-all_runs-exact n start least appends last limit [] spaces left runs got = sym (got_all [] runs spaces left got)
-  where
-    got_all : (x y : List (List Extent)) (left rest : Spaces) → Got x left ≡ Got y rest → x ≡ y
-    got_all x y left rest same = cc
-all_runs-exact n start least true last limit (bytes ∷ []) spaces left runs got =
-    let need = page_count n.page bytes in
-    let want = ask_of need last limit in
-    let request : Request = record { want = want; need = need } in
-    let first = and_then-got (part_runs n start least request spaces)
-    (λ one mid. and_then (all_runs n start least [] mid) (λ more rest. Got (one ∷ more) rest)) runs left got in
-    let shape : first.0 ∷ [] ≡ runs = got_all (first.0 ∷ []) runs first.1 left first.3 in
-    subst (AllExact n.page least true (bytes ∷ [])) shape
-    (part-got n start least want bytes spaces first.1 first.0 (want-enough true need last limit) first.2, refl)
-  where
-    got_all : (x y : List (List Extent)) (left rest : Spaces) → Got x left ≡ Got y rest → x ≡ y
-    got_all x y left rest same = cc
-all_runs-exact n start least false last limit (bytes ∷ []) spaces left runs got =
-    let need = page_count n.page bytes in
-    let request : Request = record { want = need; need = need } in
-    let first = and_then-got (part_runs n start least request spaces)
-    (λ one mid. and_then (all_runs n start least [] mid) (λ more rest. Got (one ∷ more) rest)) runs left got in
-    let shape : first.0 ∷ [] ≡ runs = got_all (first.0 ∷ []) runs first.1 left first.3 in
-    subst (AllExact n.page least false (bytes ∷ [])) shape (exact-got n start least bytes spaces first.1 first.0 first.2, refl)
-  where
-    got_all : (x y : List (List Extent)) (left rest : Spaces) → Got x left ≡ Got y rest → x ≡ y
-    got_all x y left rest same = cc
-all_runs-exact n start least appends last limit (bytes ∷ next ∷ ns) spaces left runs got =
-    let need = page_count n.page bytes in
-    let request : Request = record { want = need; need = need } in
-    let others = requests appends last limit (map (page_count n.page) (next ∷ ns)) in
-    let first = and_then-got (part_runs n start least request spaces)
-    (λ one mid. and_then (all_runs n start least others mid) (λ more rest. Got (one ∷ more) rest)) runs left got in
-    let second = and_then-got (all_runs n start least others first.1) (λ more rest. Got (first.0 ∷ more) rest) runs left first.3 in
-    let shape : first.0 ∷ second.0 ≡ runs = got_all (first.0 ∷ second.0) runs second.1 left second.3 in
-    go appends shape (exact-got n start least bytes spaces first.1 first.0 first.2)
-    (all_runs-exact n start least appends last limit (next ∷ ns) first.1 second.1 second.0 second.2)
-  where
-    got_all : (x y : List (List Extent)) (left rest : Spaces) → Got x left ≡ Got y rest → x ≡ y
-    got_all x y left rest same = cc
-
-    go : (appends : Bool) {run : List Extent} {more : List (List Extent)} → run ∷ more ≡ runs →
-        runs_pages run ≡ page_count n.page bytes → AllExact n.page least appends (next ∷ ns) more →
-        AllExact n.page least appends (bytes ∷ next ∷ ns) runs
-    go true shape one more = subst (AllExact n.page least true (bytes ∷ next ∷ ns)) shape (one, more)
-    go false shape one more = subst (AllExact n.page least false (bytes ∷ next ∷ ns)) shape (one, more)
-
--- the runs that parts were granted are used by what is laid out for them, and by what is left
-pub parts-used : (page : ℕ) (n : Numbers) (start least : ℕ) (appends : Bool) (last limit : ℕ) (parts : List Part)
-    (spaces left : Spaces) (runs : List (List Extent)) → 0 < n.page →
-    all_runs n start least (requests appends last limit (map (page_count n.page) (made_part_bytes parts))) spaces ≡ Got runs left →
-    uses page (runs_of_parts runs) ≤ segments_uses page n.page (laid_parts n.page parts runs)
-    + spare_uses page (if appends then spare_behind n.page (made_part_bytes parts) runs else None)
-parts-used page n start least appends last limit parts spaces left runs some got =
-    let exact = all_runs-exact n start least appends last limit (made_part_bytes parts) spaces left runs got in
-    let made = made-used page n.page least appends (made_part_bytes parts) runs some exact in
-    let less = laid-made page n.page parts runs in
+-- the runs of parts are used by what is laid out for them, and by what is left
+pub parts-used : (page size least : ℕ) (appends : Bool) (parts : List Part) (runs : List (List Extent)) → 0 < size →
+    AllHold size least (made_part_bytes parts) runs → AllExact size appends (made_part_bytes parts) runs →
+    uses page (runs_of_parts runs) ≤ segments_uses page size (laid_parts size parts runs)
+    + spare_uses page (if appends then spare_behind size (made_part_bytes parts) runs else None)
+parts-used page size least appends parts runs some hold exact =
+    let made = made-used page size least appends (made_part_bytes parts) runs some hold exact in
+    let less = laid-made page size parts runs in
     omega (arith, made, less)

@@ -1,2 +1,3 @@
 pub mod Tail
+pub mod Suiting
 pub mod Laying

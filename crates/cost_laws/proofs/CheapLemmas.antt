@@ -10,25 +10,23 @@ use Rattle.layout_model.specs.declared.change.Change.{Change}
 use Rattle.layout_model.specs.declared.extent.Extent.{Extent}
 use Rattle.layout_model.specs.declared.fit.Fit.{Fit}
 use Rattle.layout_model.specs.declared.fit.Fit.TheVariants.{Extend, Follow, Fresh}
-use Rattle.layout_model.specs.Grants.{Spaces, all_runs}
-use Rattle.layout_model.specs.Grants.Answer.{Got}
-use Rattle.layout_model.specs.Layout.{Tree, Grants, as_run, granted, laid, laid_entries, plan_of, requests, spare_after}
-use Rattle.layout_model.specs.Layout.{tree_entries, wanted}
+use Rattle.layout_model.specs.Layout.{Tree, Grants, as_run, laid, laid_entries, plan_of, spare_after}
+use Rattle.layout_model.specs.Layout.{tree_entries}
 use Rattle.layout_model.specs.Levels.{count_made, spliced}
 use Rattle.layout_model.specs.Pack.{pack}
 use Rattle.layout_model.specs.Parts.{parts_of}
-use Rattle.layout_model.specs.Plan.{Plan, extent_pages, fit_appended, last_entry, made_part_bytes, plan_extended, planned}
+use Rattle.layout_model.specs.Plan.{Plan, extent_pages, fit_appended, made_part_bytes, plan_extended, planned}
 use Rattle.layout_laws.specs.Halving.{runs_pages}
 use Rattle.moment_model.specs.Version.{IsGood}
-use Rattle.moment_laws.specs.Granting.{AreSpaces, LiesInSpace, page_run, runs_of_parts}
-use Rattle.moment_laws.proofs.GrantLemmas.{granted-took}
+use Rattle.moment_laws.specs.Granting.{page_run, runs_of_parts}
 use Rattle.change_laws.specs.Laying.{IsChange}
 use Rattle.change_laws.specs.Tail.{IsTail}
-use Rattle.change_laws.proofs.PartLemmas.{all-left, segments-have}
+use Rattle.change_laws.proofs.PartLemmas.{segments-have}
 use Rattle.change_laws.proofs.NodeCountLemmas.{made-alike}
 use Rattle.change_laws.proofs.LayingLemmas.{fit-cases, merged_plan}
-use Rattle.change_laws.proofs.PlannedLemmas.{follow-entries, follow-wanted, fresh-entries, fresh-spare, fresh-wanted, granted-is}
-use Rattle.change_laws.proofs.PlannedLemmas.{none-wanted, packed-object, planned-out}
+use Rattle.change_laws.specs.Suiting.{SuitPlan, IsSuited}
+use Rattle.change_laws.proofs.SuitLemmas.{fresh-suits, follow-suits}
+use Rattle.change_laws.proofs.PlannedLemmas.{follow-entries, fresh-entries, fresh-spare, packed-object, suited-out}
 use Rattle.cost_laws.specs.ChangeCost.{added_pieces, brought_pages, IsCheap}
 use Rattle.cost_laws.proofs.NodeCostLemmas.{spliced-few}
 use Rattle.cost_laws.proofs.PartCostLemmas.{plan-small}
@@ -55,21 +53,17 @@ merged-brought n change plan other = go plan.fit refl
     go Follow is = rw (is, brought_pages) refl
     go Fresh is = rw (is, brought_pages) refl
 
-fresh-small : (n : Numbers) (start : ℕ) (tree : Tree) (spare : Option Extent) (change : Change) (free mid : Spaces)
+fresh-small : (n : Numbers) (tree : Tree) (spare : Option Extent) (change : Change)
     (runs : List (List Extent)) → 0 < n.page → 0 < space_pages n → IsGood n tree →
     (merged_plan n tree.threshold (tree_entries tree) (extent_pages spare) change).fit ≡ Fresh →
-    all_runs n start tree.threshold (wanted n tree change (merged_plan n tree.threshold (tree_entries tree)
-    (extent_pages spare) change)) free ≡ Got runs mid →
+    SuitPlan n tree change (merged_plan n tree.threshold (tree_entries tree) (extent_pages spare) change) runs →
     IsSmall n tree.threshold change spare (merged_plan n tree.threshold (tree_entries tree) (extent_pages spare) change) runs
-fresh-small n start tree spare change free mid runs some space good fresh got =
+fresh-small n tree spare change runs some space good fresh suits =
     let entries = tree_entries tree in
     let plan = merged_plan n tree.threshold entries (extent_pages spare) change in
-    let last = page_count n.page (last_entry entries).bytes in
     let small = plan-small n tree.threshold entries (extent_pages spare) change some space (segments-have n entries good.segments) in
-    let asked : all_runs n start tree.threshold (requests change.appends last (space_pages n)
-    (map (page_count n.page) (made_part_bytes plan.parts))) free ≡ Got runs mid =
-    ap (λ rs. all_runs n start tree.threshold rs free) (sym (fresh-wanted n tree change plan fresh)) ∙ got in
-    let shared = all-shared n start tree.threshold change.appends last (space_pages n) (made_part_bytes plan.parts) free mid runs asked in
+    let hold = fresh-suits n tree change plan runs fresh suits in
+    let shared = all-shared n.page tree.threshold change.appends (made_part_bytes plan.parts) runs hold.0 hold.1 in
     let brings = merged-brought n change plan (λ grows. let no : Fresh ≡ Extend = sym fresh ∙ grows in fresh_is no) in
     let laid_here = ap length (fresh-entries n spare plan runs fresh) in
     let laid_count = laid-few n.page plan.parts runs in
@@ -88,18 +82,16 @@ fresh-small n start tree spare change free mid runs some space good fresh got =
     fresh_is : Fresh ≡ Extend → ⊥
     fresh_is same = cc
 
-follow-small : (n : Numbers) (start : ℕ) (tree : Tree) (spare : Option Extent) (change : Change) (free mid : Spaces)
+follow-small : (n : Numbers) (tree : Tree) (spare : Option Extent) (change : Change)
     (runs : List (List Extent)) → 0 < n.page → 0 < space_pages n → IsGood n tree →
     (merged_plan n tree.threshold (tree_entries tree) (extent_pages spare) change).fit ≡ Follow →
-    all_runs n start tree.threshold (wanted n tree change (merged_plan n tree.threshold (tree_entries tree)
-    (extent_pages spare) change)) free ≡ Got runs mid →
+    SuitPlan n tree change (merged_plan n tree.threshold (tree_entries tree) (extent_pages spare) change) runs →
     IsSmall n tree.threshold change spare (merged_plan n tree.threshold (tree_entries tree) (extent_pages spare) change) runs
-follow-small n start tree spare change free mid runs some space good follow got =
+follow-small n tree spare change runs some space good follow suits =
     let entries = tree_entries tree in
     let plan = merged_plan n tree.threshold entries (extent_pages spare) change in
     let small = plan-small n tree.threshold entries (extent_pages spare) change some space (segments-have n entries good.segments) in
-    let none = none-wanted n start tree.threshold free mid runs (ap (λ rs. all_runs n start tree.threshold rs free)
-    (sym (follow-wanted n tree change plan follow)) ∙ got) in
+    let none = follow-suits n tree change plan runs follow suits in
     let brings = merged-brought n change plan (λ grows. let no : Follow ≡ Extend = sym follow ∙ grows in follow_is no) in
     let laid_here = ap length (follow-entries n spare plan runs follow) in
     let laid_count = laid-few n.page plan.parts (as_run spare) in
@@ -123,67 +115,62 @@ follow-small n start tree spare change free mid runs some space good follow got 
     one-run None = refl
     one-run (Some run) = let all = sum_by-cons added (run ∷ []) [] in omega (arith, all)
 
-extended-small : (n : Numbers) (start : ℕ) (tree : Tree) (spare : Option Extent) (change : Change) (free mid : Spaces)
-    (runs : List (List Extent)) → all_runs n start tree.threshold [] free ≡ Got runs mid →
+extended-small : (n : Numbers) (tree : Tree) (spare : Option Extent) (change : Change)
+    (runs : List (List Extent)) → runs ≡ [] →
     IsSmall n tree.threshold change spare (plan_extended (tree_entries tree) change) runs
-extended-small n start tree spare change free mid runs got =
-    let none = none-wanted n start tree.threshold free mid runs got in
+extended-small n tree spare change runs none =
     let no_pieces : sum_by added runs ≡ 0 = ap (sum_by added) none in
     let no_pages : runs_pages (runs_of_parts runs) ≡ 0 = ap (λ rs. runs_pages (runs_of_parts rs)) none in
     let rows : sum_by added runs * tree.threshold ≡ 0 * tree.threshold = ap (λ (k : ℕ). k * tree.threshold) no_pieces in
     record { brought = omega arith; entries = omega arith; few = omega (arith, rows); granted = omega (arith, no_pages) }
 
-planned-small : (n : Numbers) (start : ℕ) (tree : Tree) (spare : Option Extent) (change : Change) (free mid : Spaces)
+planned-small : (n : Numbers) (tree : Tree) (spare : Option Extent) (change : Change)
     (runs : List (List Extent)) → 0 < n.page → 0 < space_pages n → IsGood n tree →
-    all_runs n start tree.threshold (wanted n tree change (plan_of n tree spare change)) free ≡ Got runs mid →
+    SuitPlan n tree change (plan_of n tree spare change) runs →
     IsSmall n tree.threshold change spare (plan_of n tree spare change) runs
 unfolding planned
-planned-small n start tree spare change free mid runs some space good got =
-    go (fit_appended n.page (tree_entries tree) (extent_pages spare) change) got
+planned-small n tree spare change runs some space good suits =
+    go (fit_appended n.page (tree_entries tree) (extent_pages spare) change) suits
   where
-    by_merging : all_runs n start tree.threshold (wanted n tree change (merged_plan n tree.threshold (tree_entries tree)
-        (extent_pages spare) change)) free ≡ Got runs mid →
+    by_merging : SuitPlan n tree change (merged_plan n tree.threshold (tree_entries tree) (extent_pages spare) change) runs →
         IsSmall n tree.threshold change spare (merged_plan n tree.threshold (tree_entries tree) (extent_pages spare) change) runs
-    by_merging asked =
+    by_merging suited =
         let packed = pack n.page tree.threshold (parts_of n.page (space_pages n * n.page) (tree_entries tree)
         change.at change.removed change.added) in
         elim (fit-cases n.page change.appends (extent_pages spare) (made_part_bytes packed)) [
-          | inl fresh ↦ fresh-small n start tree spare change free mid runs some space good fresh asked
-          | inr follow ↦ follow-small n start tree spare change free mid runs some space good follow.0 asked
+          | inl fresh ↦ fresh-small n tree spare change runs some space good fresh suited
+          | inr follow ↦ follow-small n tree spare change runs some space good follow.0 suited
         ]
 
-    go : (fit : Fit) → all_runs n start tree.threshold (wanted n tree change (elim fit [
+    go : (fit : Fit) → SuitPlan n tree change (elim fit [
       | Extend ↦ plan_extended (tree_entries tree) change
       | _ ↦ merged_plan n tree.threshold (tree_entries tree) (extent_pages spare) change
-    ])) free ≡ Got runs mid →
+    ]) runs →
         IsSmall n tree.threshold change spare (elim fit [
           | Extend ↦ plan_extended (tree_entries tree) change
           | _ ↦ merged_plan n tree.threshold (tree_entries tree) (extent_pages spare) change
         ]) runs
-    go Extend asked = extended-small n start tree spare change free mid runs asked
-    go Follow asked = by_merging asked
-    go Fresh asked = by_merging asked
+    go Extend suited = extended-small n tree spare change runs suited
+    go Follow suited = by_merging suited
+    go Fresh suited = by_merging suited
 
 -- ---- the whole
 
-pub change-cheap : (n : Numbers) (start : ℕ) (tree : Tree) (spare : Option Extent) (change : Change) (free left : Spaces)
-    (grants : Grants) → IsInRange n → IsGood n tree → IsTail n (Some tree) spare → IsChange tree change → AreSpaces n free →
-    granted n start tree spare change free ≡ Got grants left → IsCheap n tree spare change grants
+pub change-cheap : (n : Numbers) (tree : Tree) (spare : Option Extent) (change : Change)
+    (grants : Grants) → IsInRange n → IsGood n tree → IsTail n (Some tree) spare → IsChange tree change →
+    IsSuited n tree spare change grants → IsCheap n tree spare change grants
 unfolding laid
-change-cheap n start tree spare change free left grants range good tail is are got =
+change-cheap n tree spare change grants range good tail is suits =
     let plan = plan_of n tree spare change in
     let f = fan_out n in
     let wide = fan_out-low n range in
     let object = packed-object n tree range good in
-    let grant = granted-is n start tree spare change free left grants got in
-    let took = granted-took n start tree spare change free left grants are got in
-    let lie = all-left (LiesInSpace n) (runs_of_parts grants.runs) (map page_run grants.pages) took.together in
-    let lays = planned-out n start tree spare change free grant.mid grants.runs object tail is grant.runs lie in
-    let small = planned-small n start tree spare change free grant.mid grants.runs object.page object.space good grant.runs in
+    let lays = suited-out n tree spare change grants object tail is suits in
+    let small = planned-small n tree spare change grants.runs object.page object.space good suits.runs in
     let new = laid_entries n spare plan grants.runs in
     let nodes = spliced-few f tree.levels plan.from plan.count new grants.pages (omega (arith, wide)) good.shape lays.inside in
     let made : count_made (spliced f tree.levels plan.from plan.count new grants.pages) ≡ length grants.pages =
-    made-alike f tree.levels plan.from plan.count new grants.pages [] ∙ sym grant.pages in
+    made-alike f tree.levels plan.from plan.count new grants.pages [] ∙ sym suits.pages in
     let low = good.threshold_low in
     let brought = small.brought in
     let entries = small.entries in

@@ -1,23 +1,19 @@
 -- The runs that the parts of a plan are granted: how many halving added, and how many pages they have.
-use Rattle.std.proofs.Common.{◌≡◌, ℕ, suc, ◌+◌, ◌-◌, ◌*◌, ◌≤◌, Bool, Some, None, List, [], ◌∷◌}
+use Rattle.std.proofs.Common.{◌≡◌, ℕ, suc, ◌+◌, ◌-◌, ◌*◌, ◌≤◌, Bool, Some, None, List, [], ◌∷◌, true, false, sym, refl, subst}
 use Rattle.std.proofs.Common.{◌++◌, length, map, refl, ap, subst, arith, ◌∙◌, inl, inr, length-append, nat_eq, sum_by}
 use Rattle.std.specs.Prelude.{if◌then◌else◌}
 use Rattle.std.proofs.lemmas.Bool.{cases_Bool, eqb-true}
 use Rattle.std.proofs.lemmas.List.Sums.{sum_by-cons}
 use Rattle.std.proofs.Math.Nat.{add-mul, mul-le-mul_right}
-use Rattle.geometry_model.specs.Numbers.{Numbers}
 use Rattle.tree_model.specs.Tree.{page_count}
 use Rattle.layout_model.specs.declared.extent.Extent.{Extent}
 use Rattle.layout_model.specs.declared.part.Part.{Part}
 use Rattle.layout_model.specs.declared.part.Part.TheVariants.{Keep, Make}
-use Rattle.layout_model.specs.declared.request.Request.{Request}
-use Rattle.layout_model.specs.Grants.{Spaces, and_then, all_runs, part_runs}
-use Rattle.layout_model.specs.Grants.Answer.{Got}
-use Rattle.layout_model.specs.Layout.{requests, segments_on, laid_parts, left_over, spare_behind}
-use Rattle.layout_model.specs.Plan.{ask_of, extent, extent_pages}
+use Rattle.layout_model.specs.Layout.{segments_on, laid_parts, left_over, spare_behind}
+use Rattle.layout_model.specs.Plan.{extent, extent_pages}
 use Rattle.layout_laws.specs.Halving.{runs_pages, AreLong}
 use Rattle.moment_laws.specs.Granting.{page_run, runs_of_parts}
-use Rattle.change_laws.proofs.GotLemmas.{HoldsPart, and_then-got, exact-got, part-got, want-enough}
+use Rattle.change_laws.specs.Suiting.{HoldsPart, AllHold, AllExact}
 
 -- the runs of a part beyond its first
 abbrev pub added : List Extent → ℕ
@@ -114,76 +110,60 @@ pub record AreShared (size least : ℕ) (appends : Bool) (ns : List ℕ) (runs :
   pub pages : runs_pages (runs_of_parts runs)
       ≤ sum_by (page_count size) ns + extent_pages (if appends then spare_behind size ns runs else None)
 
-got_all : (x y : List (List Extent)) (left rest : Spaces) → Got x left ≡ Got y rest → x ≡ y
-got_all x y left rest same = cc
-
-shared-last : (n : Numbers) (start least : ℕ) (appends : Bool) (last limit bytes : ℕ) (spaces left : Spaces) (runs : List Extent) →
-    part_runs n start least (record {
-      want = if appends then ask_of (page_count n.page bytes) last limit else page_count n.page bytes;
-      need = page_count n.page bytes;
-    }) spaces ≡ Got runs left → AreShared n.page least appends (bytes ∷ []) (runs ∷ [])
-shared-last n start least appends last limit bytes spaces left runs got =
-    let size = n.page in
+shared-last : (size least : ℕ) (appends : Bool) (bytes : ℕ) (runs : List Extent) →
+    AllHold size least (bytes ∷ []) (runs ∷ []) → AllExact size appends (bytes ∷ []) (runs ∷ []) →
+    AreShared size least appends (bytes ∷ []) (runs ∷ [])
+shared-last size least appends bytes runs hold exact =
     let need = page_count size bytes in
-    let want = if appends then ask_of need last limit else need in
-    let holds = part-got n start least want bytes spaces left runs (want-enough appends need last limit) got in
     let one = sum_by-cons (page_count size) bytes [] in
     let two = sum_by-cons added runs [] in
     let alone : sum_by added (runs ∷ []) ≡ added runs = omega (arith, two) in
     let rows : sum_by added (runs ∷ []) * least ≡ added runs * least = ap (λ (k : ℕ). k * least) alone in
-    let single = pages-of_parts runs [] in
-    let few = part-added size least bytes runs holds in
-    record {
-      few = omega (arith, one, rows, few);
-      pages = elim (cases_Bool appends) [
-        | inl append ↦
-            let left_pages = part-left size least bytes runs holds in
-            let is : extent_pages (if appends then spare_behind size (bytes ∷ []) (runs ∷ []) else None)
-            ≡ extent_pages (left_over need runs) =
-            ap (λ (b : Bool). extent_pages (if b then spare_behind size (bytes ∷ []) (runs ∷ []) else None)) append in
-            omega (arith, one, single, left_pages, is)
-        | inr other ↦
-            let exact = exact-got n start least bytes spaces left runs (subst (λ (b : Bool). part_runs n start least
-            (record { want = if b then ask_of need last limit else need; need = need }) spaces ≡ Got runs left) other got) in
-            omega (arith, one, single, exact)
-      ];
-    }
+    let few = part-added size least bytes runs hold.0 in
+    record { few = omega (arith, one, rows, few); pages = pages appends exact }
+  where
+    pages : (appends : Bool) → AllExact size appends (bytes ∷ []) (runs ∷ []) →
+        runs_pages (runs_of_parts (runs ∷ []))
+        ≤ sum_by (page_count size) (bytes ∷ []) + extent_pages (if appends then spare_behind size (bytes ∷ []) (runs ∷ []) else None)
+    pages true exact =
+        let one = sum_by-cons (page_count size) bytes [] in
+        let single = pages-of_parts runs [] in
+        let left_pages = part-left size least bytes runs hold.0 in
+        omega (arith, one, single, left_pages)
+    pages false exact =
+        let one = sum_by-cons (page_count size) bytes [] in
+        let single = pages-of_parts runs [] in
+        let just = exact.0 in
+        omega (arith, one, single, just)
 
-pub all-shared : (n : Numbers) (start least : ℕ) (appends : Bool) (last limit : ℕ) (ns : List ℕ) (spaces left : Spaces)
-    (runs : List (List Extent)) →
-    all_runs n start least (requests appends last limit (map (page_count n.page) ns)) spaces ≡ Got runs left →
-    AreShared n.page least appends ns runs
-all-shared n start least appends last limit [] spaces left runs got =
-    subst (AreShared n.page least appends []) (got_all [] runs spaces left got) (record { few = omega arith; pages = omega arith })
-all-shared n start least appends last limit (bytes ∷ []) spaces left runs got =
-    let need = page_count n.page bytes in
-    let request : Request = record { want = if appends then ask_of need last limit else need; need = need } in
-    let first = and_then-got (part_runs n start least request spaces)
-    (λ one mid. and_then (all_runs n start least [] mid) (λ more rest. Got (one ∷ more) rest)) runs left got in
-    let same : Got (first.0 ∷ []) first.1 ≡ Got runs left = first.3 in
-    subst (AreShared n.page least appends (bytes ∷ [])) (got_all (first.0 ∷ []) runs first.1 left same)
-    (shared-last n start least appends last limit bytes spaces first.1 first.0 first.2)
-all-shared n start least appends last limit (bytes ∷ next ∷ ns) spaces left runs got =
-    let size = n.page in
-    let need = page_count size bytes in
-    let request : Request = record { want = need; need = need } in
-    let others = requests appends last limit (map (page_count size) (next ∷ ns)) in
-    let first = and_then-got (part_runs n start least request spaces)
-    (λ one mid. and_then (all_runs n start least others mid) (λ more rest. Got (one ∷ more) rest)) runs left got in
-    let second = and_then-got (all_runs n start least others first.1) (λ more rest. Got (first.0 ∷ more) rest) runs left first.3 in
-    let shape : first.0 ∷ second.0 ≡ runs = got_all (first.0 ∷ second.0) runs second.1 left second.3 in
-    let rest = all-shared n start least appends last limit (next ∷ ns) first.1 second.1 second.0 second.2 in
-    let exact = exact-got n start least bytes spaces first.1 first.0 first.2 in
-    let few = part-added size least bytes first.0 (part-got n start least need bytes spaces first.1 first.0 (omega arith) first.2) in
+pub all-shared : (size least : ℕ) (appends : Bool) (ns : List ℕ) (runs : List (List Extent)) →
+    AllHold size least ns runs → AllExact size appends ns runs → AreShared size least appends ns runs
+all-shared size least appends [] runs hold exact =
+    subst (AreShared size least appends []) (sym exact) (record { few = omega arith; pages = omega arith })
+all-shared size least appends (bytes ∷ ns) [] hold exact = absurd hold
+all-shared size least true (bytes ∷ []) (run ∷ runs) hold exact =
+    subst (λ rs. AreShared size least true (bytes ∷ []) (run ∷ rs)) (sym exact) (shared-last size least true bytes run (hold.0, tt) refl)
+all-shared size least false (bytes ∷ []) (run ∷ runs) hold exact =
+    subst (λ rs. AreShared size least false (bytes ∷ []) (run ∷ rs)) (sym exact.1)
+    (shared-last size least false bytes run (hold.0, tt) (exact.0, refl))
+all-shared size least appends (bytes ∷ next ∷ ns) (run ∷ runs) hold exact =
+    let parts = just appends exact in
+    let rest = all-shared size least appends (next ∷ ns) runs hold.1 parts.1 in
+    let pages_run = parts.0 in
+    let few = part-added size least bytes run hold.0 in
     let one = sum_by-cons (page_count size) bytes (next ∷ ns) in
-    let two = sum_by-cons added first.0 second.0 in
-    let rows : sum_by added (first.0 ∷ second.0) * least ≡ added first.0 * least + sum_by added second.0 * least =
-    ap (λ (k : ℕ). k * least) two ∙ add-mul (added first.0) (sum_by added second.0) least in
-    let both = pages-of_parts first.0 second.0 in
+    let two = sum_by-cons added run runs in
+    let rows : sum_by added (run ∷ runs) * least ≡ added run * least + sum_by added runs * least =
+    ap (λ (k : ℕ). k * least) two ∙ add-mul (added run) (sum_by added runs) least in
+    let both = pages-of_parts run runs in
     let less = rest.few in
     let pages = rest.pages in
-    let behind : (if appends then spare_behind size (bytes ∷ next ∷ ns) (first.0 ∷ second.0) else None)
-    ≡ (if appends then spare_behind size (next ∷ ns) second.0 else None) = refl in
+    let behind : (if appends then spare_behind size (bytes ∷ next ∷ ns) (run ∷ runs) else None)
+    ≡ (if appends then spare_behind size (next ∷ ns) runs else None) = refl in
     let set_aside = ap extent_pages behind in
-    subst (AreShared size least appends (bytes ∷ next ∷ ns)) shape
-    (record { few = omega (arith, one, rows, few, less); pages = omega (arith, one, both, exact, pages, set_aside) })
+    record { few = omega (arith, one, rows, few, less); pages = omega (arith, one, both, pages_run, pages, set_aside) }
+  where
+    just : (appends : Bool) → AllExact size appends (bytes ∷ next ∷ ns) (run ∷ runs) →
+        (runs_pages run ≡ page_count size bytes) × AllExact size appends (next ∷ ns) runs
+    just true exact = exact
+    just false exact = exact

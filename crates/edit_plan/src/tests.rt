@@ -1,11 +1,8 @@
-//! Plans of small edits and a cut of a new part, worked by hand, and plans beside the plain program.
-
-ghost use Rattle.std.specs.Prelude.{◌<◌};
+//! Plans of small edits and a cut of a new part, worked by hand.
 
 use crate::{Part, Parts, Piece, Pieces, can_plan, cut_part, plan};
 use layout_model::Part as Laid;
 use page_port::Geometry;
-use plain_plan::parts_of;
 use std::alloc::Global;
 use std::test::Fail;
 use tree_model::{Pair, Placed};
@@ -151,49 +148,5 @@ fn all_parts_of_a_cut_are_full_but_the_last(rt: HostRuntime) -> Result<(), Fail>
     ];
     assert_eq!(rt; first.as_slice(), full.as_slice());
     assert_eq!(rt; second.as_slice(), rest.as_slice());
-    Ok(())
-}
-
-/// A number that looks thrown, and in half of the cases is a multiple of 64.
-fn thrown(seed: &mut u64, below: u64) -> u64
-    requires { 0 < below }
-    ensures { result < below }
-{
-    *seed = seed
-        .wrapping_mul(6_364_136_223_846_793_005)
-        .wrapping_add(1_442_695_040_888_963_407);
-    let number = (*seed >> 33) % below;
-    if *seed < 1 << 63 {
-        number
-    } else {
-        number / 64 * 64
-    }
-}
-
-#[test]
-fn plans_are_those_of_the_plain_program(rt: HostRuntime) -> Result<(), Fail> {
-    let mut seed = 1;
-    for _ in 0..500 {
-        let a = thrown(&mut seed, 1280) + 1;
-        let b = thrown(&mut seed, 1217) + 64;
-        let c = thrown(&mut seed, 1217) + 64;
-        let window = [segment(0, a, 3), segment(a, b, 8), segment(a + b, c, 13)];
-        let entries = [window[0].pair, window[1].pair, window[2].pair];
-        let at = thrown(&mut seed, a + b + c + 1);
-        let cut = thrown(&mut seed, a + b + c - at + 1);
-        let given = thrown(&mut seed, 9000);
-        let parts = planned(rt.alloc(), &window, at, cut, given)?;
-        let Ok(want) = parts_of(rt.alloc(), 256, 4096, &entries, at, cut, given) else {
-            return Err(Fail::from("the plain parts"));
-        };
-        assert_eq!(rt;
-            parts.as_slice().len(),
-            want.len(),
-            "{given} for {cut} at {at}"
-        );
-        for (part, want) in parts.as_slice().iter().zip(&want) {
-            assert_eq!(rt; laid(part), *want, "{given} for {cut} at {at}");
-        }
-    }
     Ok(())
 }

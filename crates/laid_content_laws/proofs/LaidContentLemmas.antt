@@ -19,7 +19,6 @@ use Rattle.layout_model.specs.declared.fit.Fit.{Fit}
 use Rattle.layout_model.specs.declared.fit.Fit.TheVariants.{Extend, Follow, Fresh}
 use Rattle.layout_model.specs.declared.part.Part.{Part}
 use Rattle.layout_model.specs.declared.part.Part.TheVariants.{Keep, Make}
-use Rattle.layout_model.specs.Grants.{Spaces}
 use Rattle.layout_model.specs.Layout.{Tree, Grants, tree_entries, plan_of, laid_parts, laid_entries, laid, as_run}
 use Rattle.layout_model.specs.Levels.{entries_of_levels, nodes_of_levels, spliced}
 use Rattle.layout_model.specs.Pack.{pack}
@@ -30,16 +29,15 @@ use Rattle.content_laws.specs.Spelling.{HaveBytes, IsThere, AreWritten, all_part
 use Rattle.content_laws.proofs.SpellingLemmas.{content-length, laid-all, laid-holds, last-split, plan-spells}
 use Rattle.moment_model.specs.Moment.{ObjectSlot}
 use Rattle.moment_model.specs.Version.{IsGoodVersion, IsGood, covers}
-use Rattle.moment_laws.specs.Granting.{LiesInSpace, page_run, runs_of_parts}
-use Rattle.moment_laws.proofs.GrantLemmas.{covers-cases, granted-took}
+use Rattle.moment_laws.proofs.GrantLemmas.{covers-cases}
 use Rattle.tree_pages.specs.Stored.{StaysOn}
 use Rattle.tree_pages.proofs.FrameLemmas.{content-stays}
 use Rattle.change_laws.specs.Laying.{IsChange}
 use Rattle.change_laws.specs.Tail.{IsTail}
 use Rattle.change_laws.proofs.PieceLemmas.{segments_uses, segments_uses-cons, segments_uses-append}
-use Rattle.change_laws.proofs.PartLemmas.{keeps, all-left, all-right, plan-uses, segments-have}
+use Rattle.change_laws.proofs.PartLemmas.{keeps, all-right, plan-uses, segments-have}
 use Rattle.change_laws.proofs.LayingLemmas.{merged_plan, spliced_entries, fit-cases, extend-means}
-use Rattle.change_laws.proofs.PlannedLemmas.{fresh-entries, follow-entries, granted-is, packed-object, planned-out, some-run}
+use Rattle.change_laws.proofs.PlannedLemmas.{fresh-entries, follow-entries, packed-object, some-run, suited-out}
 use Rattle.laid_content_laws.specs.Written.{IsGrantedChange, OthersStay, AreMade, behind_front, IsWrittenBy, IsWritten}
 use Rattle.laid_content_laws.proofs.StayLemmas.{working-stays}
 
@@ -314,14 +312,14 @@ planned-edited n at now tree spare change runs payload is stay tail changes =
 
 -- ---- the tree after a change
 
-pub laid-edited : (n : Numbers) (start : ℕ) (slot : ObjectSlot) (tree : Tree) (change : Change) (free left : Spaces) (grants : Grants)
-    (at now : Pages) (payload : List ℕ) → IsInRange n → IsGrantedChange n start slot tree change free left grants →
+pub laid-edited : (n : Numbers) (slot : ObjectSlot) (tree : Tree) (change : Change) (grants : Grants)
+    (at now : Pages) (payload : List ℕ) → IsInRange n → IsGrantedChange n slot tree change grants →
     AllByRecursion (IsThere at n.page) (tree_entries tree) → length payload ≡ change.added →
     OthersStay slot grants at now → IsWritten n at now tree slot.spare change grants payload →
     content now n.page (tree_entries (laid n tree slot.spare change grants).tree)
     ≡ edited_content at n.page (tree_entries tree) change payload
 unfolding laid
-laid-edited n start slot tree change free left grants at now payload range is there paid stay written =
+laid-edited n slot tree change grants at now payload range is there paid stay written =
     let spare = slot.spare in
     let entries = tree_entries tree in
     let plan = plan_of n tree spare change in
@@ -335,16 +333,13 @@ laid-edited n start slot tree change free left grants at now payload range is th
       within = is.within.within;
       paid = paid;
     } in
-    let grant = granted-is n start tree spare change free left grants is.got in
-    let took = granted-took n start tree spare change free left grants is.spaces is.got in
-    let lie = all-left (LiesInSpace n) (runs_of_parts grants.runs) (map page_run grants.pages) took.together in
-    let lays = planned-out n start tree spare change free grant.mid grants.runs object is.tail is.within grant.runs lie in
+    let lays = suited-out n tree spare change grants object is.tail is.within is.suits in
     let new = laid_entries n spare plan grants.runs in
     let same : entries_of_levels (nodes_of_levels (spliced (fan_out n) tree.levels plan.from plan.count new grants.pages))
     ≡ spliced_entries entries plan.from plan.count new =
     spliced-entries (fan_out n) tree.levels plan.from plan.count new grants.pages (omega (arith, wide)) lays.inside in
     let stays : StaysOn n (Some tree) at now =
-    subst (λ v. StaysOn n v at now) is.working (working-stays n start slot tree change free left grants at now is stay) in
+    subst (λ v. StaysOn n v at now) is.working (working-stays n slot tree change grants at now is stay) in
     let pages : PagesStay n.page entries at now = λ page used. stays page (omega (arith, used)) in
     ap (content now n.page) same
     ∙ planned-edited n at now tree spare change grants.runs payload edited pages is.tail is.within written

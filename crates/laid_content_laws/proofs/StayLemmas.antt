@@ -1,10 +1,9 @@
 -- The pages that a granted change doesn't write, and what stays of an object where they hold what they held.
-use Rattle.std.proofs.Common.{◌≡◌, ℕ, Some, None, refl, ap, arith, inl, inr}
+use Rattle.std.proofs.Common.{◌≡◌, Some, None, refl, ap, arith, inl, inr}
 use Rattle.std.proofs.lemmas.Bool.{cases_lt}
 use Rattle.geometry_model.specs.Numbers.{Numbers}
 use Rattle.tree_model.specs.Tree.{Pages}
 use Rattle.layout_model.specs.declared.change.Change.{Change}
-use Rattle.layout_model.specs.Grants.{Spaces}
 use Rattle.layout_model.specs.Layout.{Tree, Grants, tree_entries}
 use Rattle.eos_ops.specs.declared.plain.Plain.TheVariants as plain
 use Rattle.moment_model.specs.Moment.{ObjectSlot}
@@ -15,10 +14,10 @@ use Rattle.tree_pages.proofs.FrameLemmas.{content-stays}
 use Rattle.laid_content_laws.specs.Written.{IsGrantedChange, OthersStay}
 
 -- no page of the committed version is written
-pub committed-stays : (n : Numbers) (start : ℕ) (slot : ObjectSlot) (tree : Tree) (change : Change) (free left : Spaces)
-    (grants : Grants) (at now : Pages) → IsGrantedChange n start slot tree change free left grants →
+pub committed-stays : (n : Numbers) (slot : ObjectSlot) (tree : Tree) (change : Change)
+    (grants : Grants) (at now : Pages) → IsGrantedChange n slot tree change grants →
     OthersStay slot grants at now → StaysOn n slot.committed at now
-committed-stays n start slot tree change free left grants at now is stay page used =
+committed-stays n slot tree change grants at now is stay page used =
     let spare : spare_uses page slot.spare ≡ 0 = elim (cases_lt 0 (spare_uses page slot.spare)) [
       | inl some ↦ let none = is.sound.spare_apart page some in absurd (omega (arith, none, used))
       | inr none ↦ omega (arith, none)
@@ -26,10 +25,10 @@ committed-stays n start slot tree change free left grants at now is stay page us
     stay page (is.unused page (omega (arith, used))) spare
 
 -- nor one of the working version
-pub working-stays : (n : Numbers) (start : ℕ) (slot : ObjectSlot) (tree : Tree) (change : Change) (free left : Spaces)
-    (grants : Grants) (at now : Pages) → IsGrantedChange n start slot tree change free left grants →
+pub working-stays : (n : Numbers) (slot : ObjectSlot) (tree : Tree) (change : Change)
+    (grants : Grants) (at now : Pages) → IsGrantedChange n slot tree change grants →
     OthersStay slot grants at now → StaysOn n slot.working at now
-working-stays n start slot tree change free left grants at now is stay page used =
+working-stays n slot tree change grants at now is stay page used =
     let once = is.sound.working_once page in
     stay page (is.unused page (omega (arith, used))) (omega (arith, once, used))
 
@@ -40,8 +39,8 @@ version-holds n at now None stays = refl
 version-holds n at now (Some tree) stays =
     ap plain.Present (content-stays at now n.page (tree_entries tree) (λ page used. stays page (omega (arith, used))))
 
-pub committed-holds : (n : Numbers) (start : ℕ) (slot : ObjectSlot) (tree : Tree) (change : Change) (free left : Spaces)
-    (grants : Grants) (at now : Pages) → IsGrantedChange n start slot tree change free left grants → OthersStay slot grants at now →
+pub committed-holds : (n : Numbers) (slot : ObjectSlot) (tree : Tree) (change : Change)
+    (grants : Grants) (at now : Pages) → IsGrantedChange n slot tree change grants → OthersStay slot grants at now →
     version_plain now n.page slot.committed ≡ version_plain at n.page slot.committed
-committed-holds n start slot tree change free left grants at now is stay =
-    version-holds n at now slot.committed (committed-stays n start slot tree change free left grants at now is stay)
+committed-holds n slot tree change grants at now is stay =
+    version-holds n at now slot.committed (committed-stays n slot tree change grants at now is stay)

@@ -26,6 +26,7 @@ use Rattle.moment_laws.specs.Granting.{AreSpaces, granted_runs, got_grants}
 use Rattle.moment_laws.proofs.GrantLemmas.{covers-cases}
 use Rattle.tree_pages.specs.Levels.{version_plain}
 use Rattle.window_laws.specs.Window.{moved, window_at}
+use Rattle.change_laws.proofs.SuitLemmas.{granted-suits}
 use Rattle.laid_content_laws.specs.Written.{IsGrantedChange, OthersStay, IsWritten, IsWrittenBy}
 use Rattle.laid_content_laws.proofs.StayLemmas.{committed-holds}
 use Rattle.laid_content_laws.proofs.LaidContentLemmas.{laid-edited}
@@ -207,15 +208,15 @@ spaces-of bits long = record { count = refl; each = each }
     each zero below = long
     each (suc s) below = absurd (omega (arith, below))
 
-put-is : IsGrantedChange small 0 (committed two_pages None) two_pages put_in (free_after 3 13) (free_after 6 10) on_granted
+put-is : IsGrantedChange small (committed two_pages None) two_pages put_in on_granted
 unfolding data_place
 put-is = record {
   sound = sound 512 5 2 (good 512 5 2 (omega arith) (omega arith) refl (omega arith) (omega arith)) (omega arith);
   working = refl;
   tail = tt;
   within = record { within = omega arith; some = omega arith; at_end = λ appends. cc };
-  spaces = spaces-of (replicate 3 false ++ replicate 13 true) refl;
-  got = put-granted;
+  suits = granted-suits small 0 two_pages None put_in (free_after 3 13) (free_after 6 10) on_granted
+      (spaces-of (replicate 3 false ++ replicate 13 true) refl) put-granted;
   unused = λ page used.
       let granted = uses-two page (run 7 2) (run 6 1) in
       let a = uses-one page (run 3 2) in
@@ -229,13 +230,12 @@ put-is = record {
 
 put-holds : content after_put 256 (tree_entries (laid small two_pages None put_in on_granted).tree)
     ≡ replicate 255 3 ++ (45 ∷ 3 ∷ replicate 256 4)
-put-holds = laid-edited small 0 (committed two_pages None) two_pages put_in (free_after 3 13) (free_after 6 10) on_granted at after_put
+put-holds = laid-edited small (committed two_pages None) two_pages put_in on_granted at after_put
     (45 ∷ []) in-range put-is ((λ k below. refl), tt) refl put-others put-written
 
 -- the committed bytes stay
 put-committed : version_plain after_put 256 (Some two_pages) ≡ plain.Present (replicate 256 3 ++ replicate 256 4)
-put-committed = committed-holds small 0 (committed two_pages None) two_pages put_in (free_after 3 13) (free_after 6 10) on_granted
-    at after_put put-is put-others
+put-committed = committed-holds small (committed two_pages None) two_pages put_in on_granted at after_put put-is put-others
 
 -- ---- an append to an object with a spare, of which a node's page is granted
 
@@ -252,8 +252,8 @@ append-is : (bytes root threshold pages added node : ℕ) (free left : List Bool
     IsGood small (one_segment bytes root threshold) → 3 + page_count 256 bytes + pages ≤ root → root < node → root ≤ 18 → 1 ≤ added →
     length free ≡ 16 → granted small 0 (one_segment bytes root threshold) (Some (tail bytes pages)) (append bytes added) (free ∷ [])
     ≡ got_grants (on_node node) (left ∷ []) →
-    IsGrantedChange small 0 (committed (one_segment bytes root threshold) (Some (tail bytes pages))) (one_segment bytes root threshold)
-    (append bytes added) (free ∷ []) (left ∷ []) (on_node node)
+    IsGrantedChange small (committed (one_segment bytes root threshold) (Some (tail bytes pages))) (one_segment bytes root threshold)
+    (append bytes added) (on_node node)
 append-is bytes root threshold pages added node free left is before behind last some long got = record {
   sound = sound-tail bytes root threshold pages is before;
   working = refl;
@@ -263,8 +263,8 @@ append-is bytes root threshold pages added node free left is before behind last 
     together = (0, record { in_store = omega arith; from = omega arith; to = omega (arith, before, last) });
   };
   within = record { within = omega arith; some = omega (arith, some); at_end = λ appends. (omega arith, refl) };
-  spaces = spaces-of free long;
-  got = got;
+  suits = granted-suits small 0 (one_segment bytes root threshold) (Some (tail bytes pages)) (append bytes added) (free ∷ []) (left ∷ [])
+      (on_node node) (spaces-of free long) got;
   unused = λ page used.
       let seg = run 3 (page_count 256 bytes) in
       let granted = uses-one page (run node 1) in
@@ -304,8 +304,7 @@ more-others page out spare =
     ∙ (another 6 page (replicate 44 4 ++ (more ++ replicate 112 0)) (with_page 9 (replicate 256 1) at) (none-of on page 6 off refl)
     ∙ another 9 page (replicate 256 1) at (none-of (granted_runs (on_node 9)) page 9 out refl))
 
-more-is : IsGrantedChange small 0 (committed part_filled (Some (tail 300 3))) part_filled (append 300 100)
-    (free_after 6 10) (free_after 7 9) (on_node 9)
+more-is : IsGrantedChange small (committed part_filled (Some (tail 300 3))) part_filled (append 300 100) (on_node 9)
 unfolding data_place
 more-is = append-is 300 8 4 3 100 9 (replicate 6 false ++ replicate 10 true) (replicate 7 false ++ replicate 9 true)
     (good 300 8 4 (omega arith) (omega arith) refl (omega arith) (omega arith))
@@ -313,12 +312,12 @@ more-is = append-is 300 8 4 3 100 9 (replicate 6 false ++ replicate 10 true) (re
 
 more-holds : content after_more 256 (tree_entries (laid small part_filled (Some (tail 300 3)) (append 300 100) (on_node 9)).tree)
     ≡ replicate 256 3 ++ (replicate 44 4 ++ more)
-more-holds = laid-edited small 0 (committed part_filled (Some (tail 300 3))) part_filled (append 300 100) (free_after 6 10) (free_after 7 9)
-    (on_node 9) at after_more more in-range more-is ((λ k below. refl), tt) refl more-others more-written
+more-holds = laid-edited small (committed part_filled (Some (tail 300 3))) part_filled (append 300 100) (on_node 9)
+    at after_more more in-range more-is ((λ k below. refl), tt) refl more-others more-written
 
 more-committed : version_plain after_more 256 (Some part_filled) ≡ plain.Present (replicate 256 3 ++ replicate 44 4)
-more-committed = committed-holds small 0 (committed part_filled (Some (tail 300 3))) part_filled (append 300 100) (free_after 6 10)
-    (free_after 7 9) (on_node 9) at after_more more-is more-others
+more-committed = committed-holds small (committed part_filled (Some (tail 300 3))) part_filled (append 300 100) (on_node 9)
+    at after_more more-is more-others
 
 -- ---- Extend: 300 bytes behind a full page, which grow its segment over two pages of the spare
 
@@ -348,8 +347,7 @@ long-others page out spare =
     ∙ (another 5 page (replicate 44 9 ++ replicate 212 0) (with_page 8 (replicate 256 1) at) (none-of on page 5 off refl)
     ∙ another 8 page (replicate 256 1) at (none-of (granted_runs (on_node 8)) page 8 out refl))
 
-long-is : IsGrantedChange small 0 (committed filled (Some (tail 256 3))) filled (append 256 300)
-    (free_after 5 11) (free_after 6 10) (on_node 8)
+long-is : IsGrantedChange small (committed filled (Some (tail 256 3))) filled (append 256 300) (on_node 8)
 unfolding data_place
 long-is = append-is 256 7 2 3 300 8 (replicate 5 false ++ replicate 11 true) (replicate 6 false ++ replicate 10 true)
     (good 256 7 2 (omega arith) (omega arith) refl (omega arith) (omega arith))
@@ -357,12 +355,12 @@ long-is = append-is 256 7 2 3 300 8 (replicate 5 false ++ replicate 11 true) (re
 
 long-holds : content after_long 256 (tree_entries (laid small filled (Some (tail 256 3)) (append 256 300) (on_node 8)).tree)
     ≡ replicate 256 3 ++ long
-long-holds = laid-edited small 0 (committed filled (Some (tail 256 3))) filled (append 256 300) (free_after 5 11) (free_after 6 10)
-    (on_node 8) at after_long long in-range long-is ((λ k below. refl), tt) refl long-others long-written
+long-holds = laid-edited small (committed filled (Some (tail 256 3))) filled (append 256 300) (on_node 8)
+    at after_long long in-range long-is ((λ k below. refl), tt) refl long-others long-written
 
 long-committed : version_plain after_long 256 (Some filled) ≡ plain.Present (replicate 256 3)
-long-committed = committed-holds small 0 (committed filled (Some (tail 256 3))) filled (append 256 300) (free_after 5 11)
-    (free_after 6 10) (on_node 8) at after_long long-is long-others
+long-committed = committed-holds small (committed filled (Some (tail 256 3))) filled (append 256 300) (on_node 8)
+    at after_long long-is long-others
 
 -- ---- a window: of five segments of two pages each the middle three are enough to write a byte that is put into the third
 

@@ -11,27 +11,26 @@ use Rattle.layout_model.specs.declared.fit.Fit.{Fit}
 use Rattle.layout_model.specs.declared.fit.Fit.TheVariants.{Extend, Follow, Fresh}
 use Rattle.layout_model.specs.declared.part.Part.{Part}
 use Rattle.layout_model.specs.declared.part.Part.TheVariants.{Keep, Make}
-use Rattle.layout_model.specs.Grants.{Spaces}
-use Rattle.layout_model.specs.Layout.{Tree, Grants, tree_entries, plan_of, granted, segments_on}
+use Rattle.layout_model.specs.Layout.{Tree, Grants, tree_entries, plan_of, segments_on}
 use Rattle.layout_model.specs.Layout.{as_run}
 use Rattle.layout_model.specs.Plan.{Plan}
 use Rattle.moment_model.specs.Moment.{ObjectSlot, either_uses}
 use Rattle.moment_model.specs.Version.{IsGood, uses, spare_uses}
 use Rattle.moment_laws.specs.ByObject.{IsSoundSlot}
-use Rattle.moment_laws.specs.Granting.{AreSpaces, granted_runs, got_grants}
+use Rattle.moment_laws.specs.Granting.{granted_runs}
 use Rattle.content_laws.specs.Spelling.{edited_content, behind_last}
 use Rattle.change_laws.specs.Laying.{IsChange}
+use Rattle.change_laws.specs.Suiting.{IsSuited}
 use Rattle.change_laws.specs.Tail.{IsTail}
 
--- A change of a sound object was granted pages that the object doesn't use.
-pub record IsGrantedChange (n : Numbers) (start : ℕ) (slot : ObjectSlot) (tree : Tree)
-    (change : Change) (free left : Spaces) (grants : Grants) : Type 0 where
+-- A change of a sound object was granted pages that suit it, and that the object doesn't use.
+pub record IsGrantedChange (n : Numbers) (slot : ObjectSlot) (tree : Tree) (change : Change)
+    (grants : Grants) : Type 0 where
   pub sound : IsSoundSlot IsGood n slot
   pub working : slot.working ≡ Some tree
   pub tail : IsTail n (Some tree) slot.spare
   pub within : IsChange tree change
-  pub spaces : AreSpaces n free
-  pub got : granted n start tree slot.spare change free ≡ got_grants grants left
+  pub suits : IsSuited n tree slot.spare change grants
   pub unused : (page : ℕ) → 0 < either_uses n page slot → uses page (granted_runs grants) ≡ 0
 
 -- each page but the granted ones and the spare's holds what it held

@@ -7,7 +7,6 @@ ghost use Rattle.tree_model.specs.Content.{content};
 ghost use Rattle.tree_model.specs.Tree.{Pages};
 ghost use Rattle.layout_model.specs.declared.change.Change.{Change};
 ghost use Rattle.layout_model.specs.declared.extent.Extent.{Extent};
-ghost use Rattle.layout_model.specs.Grants.{Spaces};
 ghost use Rattle.layout_model.specs.Layout.{Tree, Grants, tree_entries, laid};
 ghost use Rattle.layout_model.specs.Plan.{extent_pages, planned};
 ghost use Rattle.moment_model.specs.Moment.{ObjectSlot};
@@ -22,17 +21,17 @@ ghost use Rattle.laid_content_laws.specs.Written.{IsWrittenBy};
 /// No page of the committed version, nor of the working one before the change, is written; so both
 /// versions stay, and the committed one has the bytes that it had.
 pub fn a_laid_change_writes_no_used_page()
-    ensures committed { (n : Numbers) (start : ℕ) (slot : ObjectSlot) (tree : Tree)
-        (change : Change) (free left : Spaces) (grants : Grants) (at now : Pages) →
-        IsGrantedChange n start slot tree change free left grants →
+    ensures committed { (n : Numbers) (slot : ObjectSlot) (tree : Tree)
+        (change : Change) (grants : Grants) (at now : Pages) →
+        IsGrantedChange n slot tree change grants →
         OthersStay slot grants at now → StaysOn n slot.committed at now }
-    ensures working { (n : Numbers) (start : ℕ) (slot : ObjectSlot) (tree : Tree)
-        (change : Change) (free left : Spaces) (grants : Grants) (at now : Pages) →
-        IsGrantedChange n start slot tree change free left grants →
+    ensures working { (n : Numbers) (slot : ObjectSlot) (tree : Tree)
+        (change : Change) (grants : Grants) (at now : Pages) →
+        IsGrantedChange n slot tree change grants →
         OthersStay slot grants at now → StaysOn n slot.working at now }
-    ensures bytes { (n : Numbers) (start : ℕ) (slot : ObjectSlot) (tree : Tree)
-        (change : Change) (free left : Spaces) (grants : Grants) (at now : Pages) →
-        IsGrantedChange n start slot tree change free left grants →
+    ensures bytes { (n : Numbers) (slot : ObjectSlot) (tree : Tree)
+        (change : Change) (grants : Grants) (at now : Pages) →
+        IsGrantedChange n slot tree change grants →
         OthersStay slot grants at now →
         version_plain now n.page slot.committed ≡ version_plain at n.page slot.committed }
 {}
@@ -40,9 +39,9 @@ pub fn a_laid_change_writes_no_used_page()
 /// Once the bytes that a change brings are written, on the granted runs or on the spare, and no
 /// other page has changed, the entries of the new tree hold the edited bytes.
 pub fn a_laid_change_holds_the_edited_bytes()
-    ensures { (n : Numbers) (start : ℕ) (slot : ObjectSlot) (tree : Tree) (change : Change)
-        (free left : Spaces) (grants : Grants) (at now : Pages) (payload : List ℕ) →
-        IsInRange n → IsGrantedChange n start slot tree change free left grants →
+    ensures { (n : Numbers) (slot : ObjectSlot) (tree : Tree) (change : Change)
+        (grants : Grants) (at now : Pages) (payload : List ℕ) →
+        IsInRange n → IsGrantedChange n slot tree change grants →
         AllByRecursion (IsThere at n.page) (tree_entries tree) → length payload ≡ change.added →
         OthersStay slot grants at now → IsWritten n at now tree slot.spare change grants payload →
         content now n.page (tree_entries (laid n tree slot.spare change grants).tree)

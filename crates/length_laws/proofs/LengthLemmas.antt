@@ -1,5 +1,5 @@
 -- The bytes of a tree after a change: its parts spell the edited bytes, and what is laid out has as many as its parts.
-use Rattle.std.proofs.Common.{◌≡◌, ℕ, zero, suc, ◌+◌, ◌-◌, ◌*◌, ◌<◌, ◌≤◌, min, Bool, true, false, Option, Some}
+use Rattle.std.proofs.Common.{◌≡◌, ℕ, ◌+◌, ◌-◌, ◌*◌, ◌<◌, ◌≤◌, min, Bool, true, false, Option, Some}
 use Rattle.std.proofs.Common.{None, List, [], ◌∷◌, ◌++◌, length, map, take, drop, replicate, refl, sym, ap, subst}
 use Rattle.std.proofs.Common.{arith, ◌∙◌, inl, inr}
 use Rattle.std.specs.Prelude.{nat_le, nat_eq, if◌then◌else◌}
@@ -28,11 +28,10 @@ use Rattle.layout_model.specs.declared.part.Part.TheVariants.{Keep, Make}
 use Rattle.layout_model.specs.Parts.{parts_of}
 use Rattle.layout_model.specs.Pack.{pack}
 use Rattle.layout_model.specs.Plan.{Plan, extent_pages, made_part_bytes, fit_appended, plan_extended, planned, last_entry}
-use Rattle.layout_model.specs.Levels.{entries_of_levels, nodes_of_levels, spliced}
-use Rattle.layout_model.specs.Grants.{Spaces, Answer, all_runs}
+use Rattle.layout_model.specs.Grants.{Spaces, Answer}
 use Rattle.layout_model.specs.Grants.Answer.{Got, Refused}
-use Rattle.layout_model.specs.Layout.{Tree, Grants, tree_entries, plan_of, wanted, requests, segments_on}
-use Rattle.layout_model.specs.Layout.{laid_parts, as_run, laid_entries, laid_levels, granted, laid}
+use Rattle.layout_model.specs.Layout.{Tree, Grants, tree_entries, plan_of, segments_on}
+use Rattle.layout_model.specs.Layout.{laid_parts, as_run, laid_entries, granted, laid}
 use Rattle.layout_laws.specs.Halving.{runs_pages}
 use Rattle.layout_laws.specs.Merging.{parts_bytes}
 use Rattle.layout_laws.proofs.LevelLemmas.{spliced-entries}
@@ -42,20 +41,19 @@ use Rattle.tree_model.proofs.PageCountLaws.{count-holds, count-some}
 use Rattle.content_laws.proofs.SpellingLemmas.{content-length, plan-spells, laid-all, last-split}
 use Rattle.moment_model.specs.Version.{Version, IsGood, IsGoodVersion, tree_bytes, version_bytes}
 use Rattle.moment_model.specs.Moment.{ObjectSlot}
-use Rattle.moment_model.specs.Edit.{Effect, Refuses, Stays, Becomes, Changes, empty_tree, given_threshold}
+use Rattle.moment_model.specs.Edit.{Effect, Refuses, Stays, Becomes, Changes}
 use Rattle.moment_model.specs.Edit.{change_within, change_at, effect_on, with_working, on_grants, after_effect}
 use Rattle.moment_model.specs.Edit.{edited_length, edited_slot}
 use Rattle.moment_model.specs.Run.{Lays}
-use Rattle.moment_laws.specs.Granting.{LiesInSpace, AreSpaces, page_run, runs_of_parts}
-use Rattle.moment_laws.proofs.GrantLemmas.{granted-took}
+use Rattle.moment_laws.specs.Granting.{AreSpaces}
 use Rattle.change_laws.specs.Laying.{IsChange}
+use Rattle.change_laws.specs.Suiting.{HoldsPart, SuitPlan, IsSuited}
 use Rattle.change_laws.specs.Tail.{IsTail}
-use Rattle.change_laws.proofs.PartLemmas.{all-left, segments-have}
-use Rattle.change_laws.proofs.GotLemmas.{HoldsPart, all_runs-hold}
+use Rattle.change_laws.proofs.PartLemmas.{segments-have}
+use Rattle.change_laws.proofs.SuitLemmas.{fresh-suits, granted-suits}
 use Rattle.change_laws.proofs.SegmentLemmas.{Matched, matched-front, matched-back, matched-from}
 use Rattle.change_laws.proofs.LayingLemmas.{spliced_entries, IsPackedObject, merged_plan, fit-cases, extend-means}
-use Rattle.change_laws.proofs.PlannedLemmas.{planned-out, granted-is, packed-object, some-run, fresh-entries}
-use Rattle.change_laws.proofs.PlannedLemmas.{follow-entries, fresh-wanted, followed}
+use Rattle.change_laws.proofs.PlannedLemmas.{suited-out, packed-object, some-run, fresh-entries, follow-entries, followed}
 use Rattle.effect_laws.specs.Lengths.{plain_length}
 use Rattle.effect_laws.proofs.EffectLemmas.{edited-length}
 use Rattle.length_laws.specs.KeepsLength.{KeepsLength}
@@ -182,17 +180,16 @@ extended-entries n tree change runs spare some nothing =
     omega (arith, whole, split, end, no_bytes, new, first, nothing)
 
 -- the entries of any plan
-planned-entries : (n : Numbers) (start : ℕ) (tree : Tree) (spare : Option Extent) (change : Change)
-    (free mid : Spaces) (runs : List (List Extent)) → IsPackedObject n tree.threshold (tree_entries tree) →
-    IsTail n (Some tree) spare → IsChange tree change →
-    all_runs n start tree.threshold (wanted n tree change (plan_of n tree spare change)) free ≡ Got runs mid →
+planned-entries : (n : Numbers) (tree : Tree) (spare : Option Extent) (change : Change)
+    (runs : List (List Extent)) → IsPackedObject n tree.threshold (tree_entries tree) →
+    IsTail n (Some tree) spare → IsChange tree change → SuitPlan n tree change (plan_of n tree spare change) runs →
     bytes_of (spliced_entries (tree_entries tree)
     (plan_of n tree spare change).from (plan_of n tree spare change).count
     (laid_entries n spare (plan_of n tree spare change) runs)) + change.removed
     ≡ bytes_of (tree_entries tree) + change.added
 unfolding planned
-planned-entries n start tree spare change free mid runs object tail is got =
-    go (fit_appended n.page entries (extent_pages spare) change) refl got
+planned-entries n tree spare change runs object tail is suits =
+    go (fit_appended n.page entries (extent_pages spare) change) refl suits
   where
     entries : List Pair
     entries = tree_entries tree
@@ -201,24 +198,17 @@ planned-entries n start tree spare change free mid runs object tail is got =
     IsCounted plan = bytes_of (spliced_entries (tree_entries tree) plan.from plan.count
         (laid_entries n spare plan runs)) + change.removed ≡ bytes_of (tree_entries tree) + change.added
 
-    counted : all_runs n start tree.threshold
-        (wanted n tree change (merged_plan n tree.threshold (tree_entries tree) (extent_pages spare) change)) free
-        ≡ Got runs mid →
+    counted : SuitPlan n tree change (merged_plan n tree.threshold (tree_entries tree) (extent_pages spare) change) runs →
         IsCounted (merged_plan n tree.threshold (tree_entries tree) (extent_pages spare) change)
-    counted asked =
+    counted suited =
         let plan = merged_plan n tree.threshold (tree_entries tree) (extent_pages spare) change in
         let have = segments-have n (tree_entries tree) object.segments in
         let packed = pack n.page tree.threshold (parts_of n.page (space_pages n * n.page)
         (tree_entries tree) change.at change.removed change.added) in
         elim (fit-cases n.page change.appends (extent_pages spare) (made_part_bytes packed)) [
           | inl fresh ↦
-              let last = page_count n.page (last_entry (tree_entries tree)).bytes in
-              let runs_got : all_runs n start tree.threshold (requests change.appends last (space_pages n)
-              (map (page_count n.page) (made_part_bytes plan.parts))) free ≡ Got runs mid =
-              ap (λ rs. all_runs n start tree.threshold rs free) (sym (fresh-wanted n tree change plan fresh)) ∙ asked in
-              let matched = matched-from n.page tree.threshold plan.parts runs
-              (all_runs-hold n start tree.threshold change.appends last (space_pages n)
-              (made_part_bytes plan.parts) free mid runs runs_got) in
+              let hold = fresh-suits n tree change plan runs fresh suited in
+              let matched = matched-from n.page tree.threshold plan.parts runs hold.0 in
               subst (λ (new : List Pair). bytes_of
               (spliced_entries (tree_entries tree) plan.from plan.count new) + change.removed
               ≡ bytes_of (tree_entries tree) + change.added)
@@ -235,44 +225,40 @@ planned-entries n start tree spare change free mid runs object tail is got =
         ]
 
     go : (fit : Fit) → fit_appended n.page (tree_entries tree) (extent_pages spare) change ≡ fit →
-        all_runs n start tree.threshold (wanted n tree change (elim fit [
+        SuitPlan n tree change (elim fit [
           | Extend ↦ plan_extended (tree_entries tree) change
           | _ ↦ merged_plan n tree.threshold (tree_entries tree) (extent_pages spare) change
-        ])) free ≡ Got runs mid →
+        ]) runs →
         IsCounted (elim fit [
           | Extend ↦ plan_extended (tree_entries tree) change
           | _ ↦ merged_plan n tree.threshold (tree_entries tree) (extent_pages spare) change
         ])
-    go Extend fit asked =
+    go Extend fit suited =
         let means = extend-means n.page (tree_entries tree) (extent_pages spare) change fit in
         let none = (is.at_end means.2).1 in
         let bring = is.some in
         let any = count-some n.page change.added object.page (omega (arith, none, bring)) in
         let run = some-run n tree spare (page_count n.page change.added) tail (omega (arith, any)) means.0 in
         extended-entries n tree change runs spare run.3.some none
-    go Follow fit asked = counted asked
-    go Fresh fit asked = counted asked
+    go Follow fit suited = counted suited
+    go Fresh fit suited = counted suited
 
 -- ---- a change, and an edit
 
-pub laid-length : (n : Numbers) (start : ℕ) (tree : Tree) (spare : Option Extent) (change : Change)
-    (free left : Spaces) (grants : Grants) → IsInRange n → IsGood n tree →
-    IsTail n (Some tree) spare → IsChange tree change → AreSpaces n free →
-    granted n start tree spare change free ≡ Got grants left →
+pub laid-length : (n : Numbers) (tree : Tree) (spare : Option Extent) (change : Change)
+    (grants : Grants) → IsInRange n → IsGood n tree →
+    IsTail n (Some tree) spare → IsChange tree change → IsSuited n tree spare change grants →
     tree_bytes (laid n tree spare change grants).tree + change.removed ≡ tree_bytes tree + change.added
 unfolding laid
-laid-length n start tree spare change free left grants range good tail is are got =
+laid-length n tree spare change grants range good tail is suits =
     let plan = plan_of n tree spare change in
     let wide = fan_out-low n range in
-    let grant = granted-is n start tree spare change free left grants got in
-    let took = granted-took n start tree spare change free left grants are got in
-    let lie = all-left (LiesInSpace n) (runs_of_parts grants.runs) (map page_run grants.pages) took.together in
     let object = packed-object n tree range good in
-    let lays = planned-out n start tree spare change free grant.mid grants.runs object tail is grant.runs lie in
+    let lays = suited-out n tree spare change grants object tail is suits in
     let new = laid_entries n spare plan grants.runs in
     let entries = spliced-entries (fan_out n) tree.levels plan.from plan.count new grants.pages (omega (arith, wide)) lays.inside in
     let same = ap bytes_of entries in
-    let counted = planned-entries n start tree spare change free grant.mid grants.runs object tail is grant.runs in
+    let counted = planned-entries n tree spare change grants.runs object tail is suits.runs in
     omega (arith, same, counted)
 
 -- the length after the effect of an edit
@@ -394,7 +380,8 @@ effect-slot n start free left slot after (Changes tree change) size range good t
         let new = laid n tree slot.spare change grants in
         let same : with_working slot (Some new.tree) new.spare ≡ after =
         got_same (with_working slot (Some new.tree) new.spare) after rest left got in
-        let bytes = laid-length n start tree slot.spare change free rest grants range good_tree tail_tree has.1 are was in
+        let bytes = laid-length n tree slot.spare change grants range good_tree tail_tree has.1
+        (granted-suits n start tree slot.spare change free rest grants are was) in
         let sum = has.2 in
         let long : tree_bytes new.tree ≡ unwrap_or size 0 = omega (arith, bytes, sum) in (
           ap (λ (s : ObjectSlot). s.committed) (sym same),

@@ -1,15 +1,14 @@
 -- Worked edits of a tree of two segments, 700 bytes on 256-byte pages, out of a space of sixteen pages.
-use Rattle.std.proofs.Common.{◌≡◌, ℕ, true, false, refl, Bool, Option, Some, None, List, [], ◌∷◌, ◌++◌, replicate}
+use Rattle.std.proofs.Common.{◌≡◌, true, false, refl, Some, None, [], ◌∷◌, replicate}
 use Rattle.geometry_model.specs.Numbers.{Numbers}
 use Rattle.block_model.specs.Place.{place}
-use Rattle.eos_ops.specs.declared.edit.Edit.{Edit}
-use Rattle.eos_ops.specs.declared.edit.Edit.TheVariants.{Append, Insert, Delete}
-use Rattle.layout_model.specs.Grants.{Spaces, Answer}
+use Rattle.eos_ops.specs.declared.edit.Edit.TheVariants.{Insert, Delete}
+use Rattle.layout_model.specs.Grants.{Spaces}
 use Rattle.layout_model.specs.Layout.{Tree, granted, laid}
 use Rattle.layout_model.specs.Levels.{spliced}
 use Rattle.layout_model.specs.Plan.{planned}
 use Rattle.moment_model.specs.Moment.{ObjectSlot}
-use Rattle.moment_model.specs.Version.{Version, version_bytes}
+use Rattle.moment_model.specs.Version.{version_bytes}
 use Rattle.moment_model.specs.Edit.{edited_slot}
 use Rattle.moment_model.specs.Run.{slot_got}
 

@@ -8,12 +8,13 @@ ghost use Rattle.eos_ops.specs.Edits.{edited};
 ghost use Rattle.layout_model.specs.declared.change.Change.{Change};
 ghost use Rattle.layout_model.specs.declared.extent.Extent.{Extent};
 ghost use Rattle.layout_model.specs.Grants.{Spaces};
-ghost use Rattle.layout_model.specs.Layout.{Tree, Grants, granted, laid};
+ghost use Rattle.layout_model.specs.Layout.{Tree, Grants, laid};
 ghost use Rattle.moment_model.specs.Edit.{edited_slot};
 ghost use Rattle.moment_model.specs.Moment.{ObjectSlot};
 ghost use Rattle.moment_model.specs.Version.{IsGood, IsGoodVersion, tree_bytes, version_bytes};
-ghost use Rattle.moment_laws.specs.Granting.{AreSpaces, got_grants};
+ghost use Rattle.moment_laws.specs.Granting.{AreSpaces};
 ghost use Rattle.change_laws.specs.Laying.{IsChange};
+ghost use Rattle.change_laws.specs.Suiting.{IsSuited};
 ghost use Rattle.soundness_laws.specs.Keeping.{got_slot};
 ghost use Rattle.change_laws.specs.Tail.{IsTail};
 ghost use Rattle.effect_laws.specs.Lengths.{plain_length};
@@ -21,14 +22,13 @@ ghost use Rattle.length_laws.specs.KeepsLength.{KeepsLength};
 
 use moment_model::Kind;
 
-/// A change of a good tree that is laid out on granted pages leaves a tree that has the bytes of
-/// the old one, but for those that it removes, and those that it brings.
+/// A change of a good tree that is laid out on pages that suit it, whoever granted them, leaves a
+/// tree that has the bytes of the old one, but for those that it removes, and those that it brings.
 pub fn a_laid_change_has_its_length()
-    ensures { (n : Numbers) (start : ℕ) (tree : Tree) (spare : Option Extent) (change : Change)
-        (free left : Spaces) (grants : Grants) →
+    ensures { (n : Numbers) (tree : Tree) (spare : Option Extent) (change : Change)
+        (grants : Grants) →
         IsInRange n → IsGood n tree → IsTail n (Some tree) spare → IsChange tree change →
-        AreSpaces n free →
-        granted n start tree spare change free ≡ got_grants grants left →
+        IsSuited n tree spare change grants →
         tree_bytes (laid n tree spare change grants).tree + change.removed
         ≡ tree_bytes tree + change.added }
 {}

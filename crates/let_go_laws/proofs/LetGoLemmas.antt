@@ -1,10 +1,10 @@
 -- Which pages a change lets go, and which of them are free and which locked after it.
-use Rattle.std.proofs.Common.{◌≡◌, ℕ, zero, suc, ◌+◌, ◌<◌, ◌≤◌, Bool, true, false, ◌&&◌, ◌||◌, Option, Some, None}
-use Rattle.std.proofs.Common.{List, [], ◌∷◌, ◌++◌, length, map, take, drop, refl, sym, ap, subst, arith, ◌∙◌, inl}
+use Rattle.std.proofs.Common.{◌≡◌, ℕ, ◌+◌, ◌<◌, Bool, true, false, ◌&&◌, ◌||◌, Option, Some, None}
+use Rattle.std.proofs.Common.{List, [], ◌++◌, length, map, take, drop, refl, sym, ap, subst, arith, ◌∙◌, inl}
 use Rattle.std.proofs.Common.{inr, nat_eq, nat_lt}
-use Rattle.std.proofs.lemmas.Bool.{cases_Bool, cases_lt, false≢true, and_parts, and_from, eqb-true, eq-eqb, ltb-true, lt-ltb}
+use Rattle.std.proofs.lemmas.Bool.{cases_Bool, and_from, eqb-true, eq-eqb, lt-ltb}
 use Rattle.std.proofs.lemmas.Bool.Decides.{nat_tests}
-use Rattle.std.proofs.lemmas.List.{map-append, take-append-drop}
+use Rattle.std.proofs.lemmas.List.{take-append-drop}
 use Rattle.std.proofs.lemmas.List.Sums.{sum_by-cons}
 use Rattle.std.proofs.Math.Seq.{drop-drop}
 use Rattle.geometry_model.specs.Numbers.{Numbers, IsInRange, fan_out}
@@ -17,21 +17,21 @@ use Rattle.layout_model.specs.Grants.{Spaces}
 use Rattle.layout_model.specs.Grants.Answer.{Got}
 use Rattle.layout_model.specs.Layout.{Tree, Grants, tree_entries, plan_of, laid_entries, granted, laid}
 use Rattle.layout_laws.proofs.LevelLemmas.{spliced-entries}
-use Rattle.moment_model.specs.Version.{Version, IsGood, IsGoodVersion, covers, uses, segment_run, node_runs, version_uses, spare_uses}
+use Rattle.moment_model.specs.Version.{Version, IsGood, IsGoodVersion, covers, uses, segment_run, version_uses, spare_uses}
 use Rattle.moment_model.specs.Moment.{ObjectSlot, Moment, object_slot, with_object_slot, free_of, is_free}
-use Rattle.moment_model.specs.Moment.{is_locked, committed_uses, working_uses, either_uses, IsSound}
-use Rattle.moment_model.specs.Edit.{Effect, Changes, after_effect}
-use Rattle.moment_laws.specs.Change.{free_after, locked_after}
-use Rattle.moment_laws.specs.Granting.{LiesInSpace, AreSpaces, page_run, runs_of_parts, granted_runs}
-use Rattle.moment_laws.proofs.GrantLemmas.{granted-took, free_of-spaces, uses-append}
+use Rattle.moment_model.specs.Moment.{is_locked, committed_uses, working_uses, IsSound}
+use Rattle.moment_model.specs.Edit.{Changes, after_effect}
+use Rattle.moment_laws.specs.Granting.{page_run, runs_of_parts}
+use Rattle.moment_laws.proofs.GrantLemmas.{free_of-spaces, uses-append}
 use Rattle.moment_laws.proofs.ChangeLemmas.{is_free-after, is_locked-after, sound-grown}
 use Rattle.change_laws.specs.Laying.{IsChange}
+use Rattle.change_laws.specs.Suiting.{IsSuited}
 use Rattle.soundness_laws.specs.LetGo.{laid_slot}
 use Rattle.change_laws.specs.Tail.{IsTail, HaveTails}
 use Rattle.change_laws.proofs.PieceLemmas.{segments_uses, segments_uses-append}
-use Rattle.change_laws.proofs.PartLemmas.{all-left}
 use Rattle.change_laws.proofs.LayingLemmas.{spliced_entries}
-use Rattle.change_laws.proofs.PlannedLemmas.{granted-is, packed-object, planned-out}
+use Rattle.change_laws.proofs.SuitLemmas.{granted-suits}
+use Rattle.change_laws.proofs.PlannedLemmas.{packed-object, suited-out}
 use Rattle.change_laws.proofs.ChangeLemmas.{granted-used}
 use Rattle.soundness_laws.proofs.EditLemmas.{effect-edited}
 use Rattle.let_go_laws.specs.LetGo.{is_dropped, replaced_entries, spare_run, dropped_runs, AreGone}
@@ -109,26 +109,23 @@ same_tests x y z same =
     both_false false true = refl
     both_false false false = refl
 
-pub runs-dropped : (n : Numbers) (start : ℕ) (slot : ObjectSlot) (tree : Tree) (change : Change)
-    (free left : Spaces) (grants : Grants) (gone : List Extent) → IsInRange n → IsGood n tree →
-    IsTail n (Some tree) slot.spare → slot.working ≡ Some tree → IsChange tree change → AreSpaces n free →
-    granted n start tree slot.spare change free ≡ Got grants left →
+pub runs-dropped : (n : Numbers) (slot : ObjectSlot) (tree : Tree) (change : Change)
+    (grants : Grants) (gone : List Extent) → IsInRange n → IsGood n tree →
+    IsTail n (Some tree) slot.spare → slot.working ≡ Some tree → IsChange tree change →
+    IsSuited n tree slot.spare change grants →
     AreGone tree (laid n tree slot.spare change grants).tree grants.pages gone → (page : ℕ) →
     is_dropped n page slot (laid_slot slot (laid n tree slot.spare change grants))
     ≡ (nat_lt 0 (uses page (dropped_runs n tree slot.spare change gone))
     && nat_eq (working_uses n page (laid_slot slot (laid n tree slot.spare change grants))) 0)
 unfolding laid
-runs-dropped n start slot tree change free left grants gone range good tail working is are got nodes page =
+runs-dropped n slot tree change grants gone range good tail working is suits nodes page =
     let spare = slot.spare in
     let plan = plan_of n tree spare change in
     let wide = fan_out-low n range in
     let object = packed-object n tree range good in
     let entries = tree_entries tree in
-    let grant = granted-is n start tree spare change free left grants got in
-    let took = granted-took n start tree spare change free left grants are got in
-    let lie = all-left (LiesInSpace n) (runs_of_parts grants.runs) (map page_run grants.pages) took.together in
-    let lays = planned-out n start tree spare change free grant.mid grants.runs object tail is grant.runs lie in
-    let used = granted-used n start tree spare change free left grants range good tail is are got page in
+    let lays = suited-out n tree spare change grants object tail is suits in
+    let used = granted-used n tree spare change grants range good tail is suits page in
     let new = laid_entries n spare plan grants.runs in
     let levels = spliced (fan_out n) tree.levels plan.from plan.count new grants.pages in
     let new_entries : entries_of_levels (nodes_of_levels levels) ≡ spliced_entries entries plan.from plan.count new =
@@ -183,8 +180,8 @@ change-dropped n held start moment o tree change left grants gone range sound ta
     let slot = object_slot moment o in
     let good : IsGood n tree = subst (IsGoodVersion IsGood n) working (sound.kept o).working in
     let tail : IsTail n (Some tree) slot.spare = subst (λ (v : Version). IsTail n v slot.spare) working (tails o) in
-    runs-dropped n start slot tree change (free_of n moment) left grants gone range good tail working is
-    (free_of-spaces n moment) got nodes page
+    runs-dropped n slot tree change grants gone range good tail working is
+    (granted-suits n start tree slot.spare change (free_of n moment) left grants (free_of-spaces n moment) got) nodes page
     ∙ page-dropped (uses page (dropped_runs n tree slot.spare change gone))
     (working_uses n page (laid_slot slot (laid n tree slot.spare change grants))) some none
 

@@ -1,17 +1,14 @@
 -- A worked change: of two committed segments the second is cut down to its first page, so its other page and the old
 -- root are locked; the same of an object that was never committed leaves them free.
-use Rattle.std.proofs.Common.{◌≡◌, ℕ, true, false, refl, Bool, Option, Some, None, List, [], ◌∷◌, replicate}
+use Rattle.std.proofs.Common.{◌≡◌, true, false, refl, Some, None, [], ◌∷◌, replicate}
 use Rattle.geometry_model.specs.Numbers.{Numbers}
-use Rattle.block_model.specs.Place.{place}
 use Rattle.layout_model.specs.declared.change.Change.{Change}
-use Rattle.layout_model.specs.declared.extent.Extent.{Extent}
 use Rattle.layout_model.specs.Grants.{Spaces}
-use Rattle.layout_model.specs.Layout.{Tree, Grants, granted, laid}
+use Rattle.layout_model.specs.Layout.{Tree, Grants, laid}
 use Rattle.layout_model.specs.Levels.{spliced}
 use Rattle.layout_model.specs.Plan.{planned}
-use Rattle.moment_model.specs.Moment.{ObjectSlot, Moment, is_free, is_locked}
+use Rattle.moment_model.specs.Moment.{ObjectSlot, is_free, is_locked}
 use Rattle.moment_model.specs.Version.{Version}
-use Rattle.moment_laws.specs.Granting.{got_grants}
 use Rattle.soundness_laws.specs.LetGo.{laid_slot}
 use Rattle.let_go_laws.specs.LetGo.{is_dropped, dropped_runs}
 

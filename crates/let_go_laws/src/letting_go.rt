@@ -13,6 +13,7 @@ ghost use Rattle.moment_model.specs.Moment.{working_uses, IsSound};
 ghost use Rattle.moment_model.specs.Version.{IsGood, uses};
 ghost use Rattle.moment_laws.specs.Granting.{AreSpaces, got_grants};
 ghost use Rattle.change_laws.specs.Laying.{IsChange};
+ghost use Rattle.change_laws.specs.Suiting.{IsSuited};
 ghost use Rattle.soundness_laws.specs.LetGo.{laid_slot};
 ghost use Rattle.change_laws.specs.Tail.{IsTail, HaveTails};
 ghost use Rattle.let_go_laws.specs.LetGo.{is_dropped, dropped_runs, AreGone};
@@ -38,14 +39,14 @@ pub fn dropped_pages_are_free_or_locked<K: Kind>()
         ≡ nat_lt 0 (committed_uses n page (object_slot moment o)) }
 {}
 
-/// The pages that a change of a good tree lets go are those of the runs of the entries and nodes
-/// that it replaces and of the old spare, without those that the new tree and spare use.
+/// The pages that a change of a good tree lets go, whoever granted the pages that suit it, are those
+/// of the runs of the entries and nodes that it replaces and of the old spare, without those that the
+/// new tree and spare use.
 pub fn a_change_lets_runs_go()
-    ensures { (n : Numbers) (start : ℕ) (slot : ObjectSlot) (tree : Tree) (change : Change)
-        (free left : Spaces) (grants : Grants) (gone : List Extent) →
+    ensures { (n : Numbers) (slot : ObjectSlot) (tree : Tree) (change : Change)
+        (grants : Grants) (gone : List Extent) →
         IsInRange n → IsGood n tree → IsTail n (Some tree) slot.spare → slot.working ≡ Some tree →
-        IsChange tree change → AreSpaces n free →
-        granted n start tree slot.spare change free ≡ got_grants grants left →
+        IsChange tree change → IsSuited n tree slot.spare change grants →
         AreGone tree (laid n tree slot.spare change grants).tree grants.pages gone → (page : ℕ) →
         is_dropped n page slot (laid_slot slot (laid n tree slot.spare change grants))
         ≡ (nat_lt 0 (uses page (dropped_runs n tree slot.spare change gone))

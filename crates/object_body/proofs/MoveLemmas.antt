@@ -1,9 +1,8 @@
 -- What follows from how the spaces moved with an object.
-use Rattle.std.proofs.Common.{◌≡◌, ℕ, ◌+◌, ◌<◌, ◌≤◌, Bool, true, false, ◌&&◌, ◌||◌, List, refl, sym, ap, subst}
+use Rattle.std.proofs.Common.{◌≡◌, ℕ, ◌<◌, ◌≤◌, Bool, true, false, ◌&&◌, ◌||◌, List, refl, sym, subst}
 use Rattle.std.proofs.Common.{arith, ◌∙◌, inl, inr, nat_eq, nat_lt}
 use Rattle.std.proofs.lemmas.Bool.{cases_lt, ne_eqb}
 use Rattle.geometry_model.specs.Numbers.{Numbers}
-use Rattle.geometry_model.specs.Pages.{IsPlace}
 use Rattle.moment_model.specs.Moment.{ObjectSlot, committed_uses, working_uses, either_uses}
 use Rattle.moment_laws.specs.Change.{free_after, locked_after}
 use Rattle.space_directory.specs.SpaceView.{SpaceView}

@@ -2,19 +2,19 @@
 -- such call comes after another.
 use Rattle.std.proofs.Common.{◌≡◌, ◌≢◌, ℕ, ◌+◌, ◌-◌, ◌<◌, ◌≤◌, Bool, true, false, not, ◌&&◌, ◌||◌, IsTrue, List, []}
 use Rattle.std.proofs.Common.{◌∷◌, length, zero, suc, Some, None, Option, refl, sym, ap, subst, arith, ◌∙◌, inl}
-use Rattle.std.proofs.Common.{inr, nat_le, nat_lt}
+use Rattle.std.proofs.Common.{inr}
 use Rattle.std.specs.Prelude.{slice_get, slice_set, slice_index, slice_index_or, map}
 use Rattle.std.proofs.lemmas.Bool.{cases_lt, cases_eq, false≢true}
 use Rattle.std.proofs.lemmas.List.{length-set}
 use Rattle.base_laws.proofs.ListLaws.{slice_get-set_same, slice_get-set_other}
 use Rattle.base_laws.proofs.OptionLaws.{some-inner}
-use Rattle.geometry_model.specs.Numbers.{Numbers, space_pages}
+use Rattle.geometry_model.specs.Numbers.{Numbers}
 use Rattle.geometry_model.specs.Pages.{IsPlace, IsInSpace, first_page}
 use Rattle.geometry_model.proofs.PageLaws.{IsPlace-unique, IsPlace-in_run}
 use Rattle.block_model.specs.Block.{has_page}
 use Rattle.space_directory.specs.SpaceView.{SpaceView, IsSpace, after_grant, after_give, after_lock, after_unlock}
 use Rattle.space_directory.proofs.PageLaws.{in_run, in_run-inside, in_run-below, in_run-above, free-granted}
-use Rattle.space_directory.proofs.PageLaws.{locked-granted, free-given, locked-given, free-locked, locked-locked}
+use Rattle.space_directory.proofs.PageLaws.{free-given, locked-given, free-locked, locked-locked}
 use Rattle.space_directory.proofs.PageLaws.{free-unlocked, locked-unlocked}
 use Rattle.space_directory.proofs.Spaces.{granted_sound, given_sound, locked_sound, unlocked_sound}
 use Rattle.block_model.specs.Block.{HasRun}
@@ -30,7 +30,7 @@ use Rattle.superdirectory.proofs.GrantLaws.{spot_placed, run_some, run_none, aro
 use Rattle.moment_model.specs.Moment.{ObjectSlot, either_uses}
 use Rattle.moment_laws.specs.Change.{free_after, locked_after}
 use Rattle.object_body.specs.Places.{IsStore, AreHome, is_free_place, is_locked_place}
-use Rattle.object_body.specs.Moves.{Fits, Moves, MovesTold, IsUntouched, locks}
+use Rattle.object_body.specs.Moves.{MovesTold, IsUntouched, locks}
 
 -- what becomes of a page, by its number and by whether it was free and locked
 abbrev pub Turn : Type 0

@@ -1,7 +1,7 @@
 -- What the calls of a body do, each as one record over what the body, its port and the spaces
 -- show before and after.
 use Rattle.std.specs.Prelude.{◌≡◌, ℕ, ◌+◌, ◌<◌, ◌≤◌, Bool, IsTrue, List, length, Option, Some}
-use Rattle.std.specs.Prelude.{None, Result, Ok, Err, IfOk, OnOk, OnErr}
+use Rattle.std.specs.Prelude.{None, Result, Ok, Err, IfOk, OnOk}
 use Rattle.eos_ops.specs.declared.edit.Edit.{Edit}
 use Rattle.eos_ops.specs.declared.outcome.Outcome.{Outcome}
 use Rattle.eos_ops.specs.declared.outcome.Outcome.TheVariants.{Done}
@@ -25,6 +25,7 @@ use Rattle.object_body.specs.declared.fails.LookFail.{LookFail}
 use Rattle.object_body.specs.declared.fails.LookFail.TheVariants as look
 use Rattle.object_body.specs.Form.{Form, Contents, AreTied}
 use Rattle.object_body.specs.Lengths.{outcome_of}
+use Rattle.object_body.specs.Memory.{EditMayTakeMemory}
 use Rattle.object_body.specs.Moves.{MovesTold, IsUntouched}
 use Rattle.object_body.specs.Places.{AreHome}
 
@@ -123,7 +124,8 @@ pub record IsToldEdit (answer : Spaces → Answer ObjectSlot) (may_refuse : ℕ 
   pub writes : WritesWithin (may_write after.told.slot) used now
 
 -- What an edit does: `laid` is how the kind of object lays one out, `start` the space that is
--- looked at first, `used` and `now` are the port's counts.
+-- looked at first, `used` and `now` are the port's counts. Memory is wanted only by an edit that
+-- may take some.
 pub record IsEdit (tells : Bool) (suits : Contents → Type 0) (laid : Lays)
     (may_refuse : Numbers → ObjectSlot → ℕ → Type 0)
     (may_write : Numbers → ObjectSlot → Edit → ObjectSlot → ℕ → Type 0) (start : ℕ) (edit : Edit)
@@ -135,6 +137,7 @@ pub record IsEdit (tells : Bool) (suits : Contents → Type 0) (laid : Lays)
   pub low : Part (IsExplained (count before.rest) result) before.trace after.trace
   pub port : IsUsed used now
   pub cause : HasCause used.faults now.faults (result ≡ Err Fault)
+  pub memory : result ≡ Err Memory → EditMayTakeMemory edit
   pub told : IsTrue tells → IsToldEdit
       (λ free. laid before.form.numbers start free before.told.slot edit)
       (may_refuse before.form.numbers before.told.slot)
@@ -162,7 +165,7 @@ pub record IsWithin (len : Option ℕ) (at n : ℕ) : Type 0 where
   pub range : at + n ≤ bytes
 
 -- What a read of n bytes from `at` on does: it gives the bytes of the working object, and leaves
--- both versions as they are.
+-- both versions as they are. A read of no byte wants no memory.
 pub record IsBodyRead (tells : Bool) (suits : Contents → Type 0)
     (may_read : Numbers → ObjectSlot → ℕ → ℕ → Type 0) (at n : ℕ)
     (result : Result (List ℕ) LookFail) (form new_form : Form) (told new_told : Contents)
@@ -174,4 +177,5 @@ pub record IsBodyRead (tells : Bool) (suits : Contents → Type 0)
   pub reads : IsTrue tells → ReadsWithin (may_read form.numbers told.slot n) used now
   pub port : IsUsed used now
   pub cause : HasCause used.faults now.faults (result ≡ Err look.Fault)
+  pub memory : result ≡ Err look.Memory → 0 < n
   pub tied : IsTrue tells → AreTied suits new_form new_told

@@ -1,14 +1,14 @@
 -- What a stored object shows: of itself over every device, and of its bytes and pages over one
 -- that tells.
-use Rattle.std.specs.Prelude.{◌≡◌, ℕ, ◌≤◌, Bool, true, List, [], ◌∷◌, Option, Some, None, IfSome}
+use Rattle.std.specs.Prelude.{◌≡◌, ℕ, ◌≤◌, Bool, true, List, [], ◌∷◌, Option, IfSome}
 use Rattle.eos_ops.specs.declared.edit.Edit.{Edit}
 use Rattle.eos_ops.specs.declared.edit.Edit.TheVariants.{Create}
-use Rattle.eos_ops.specs.declared.end.End.{End}
 use Rattle.eos_ops.specs.declared.plain.Plain.{Plain}
 use Rattle.geometry_model.specs.Numbers.{Numbers}
-use Rattle.history.specs.Annals.{IsLegal}
+use Rattle.layout_model.specs.Layout.{Tree}
 use Rattle.moment_model.specs.Moment.{ObjectSlot, IsAtRest}
 use Rattle.moment_model.specs.Edit.{settled, undone}
+use Rattle.moment_model.specs.Version.{version_bytes}
 use Rattle.object_body.specs.Lengths.{length_of}
 
 -- The numbers of the store that the object is made for, the lengths of its two versions, none of
@@ -33,6 +33,15 @@ pub record AreTied (suits : Contents → Type 0) (form : Form) (told : Contents)
   pub working : form.working ≡ length_of told.working
   pub rests : form.is_resting ≡ true → IsAtRest told.slot × (told.working ≡ told.committed)
   pub kind : suits told
+
+-- both versions of the slot have the lengths of the bytes
+pub record HaveLengths (told : Contents) : Type 0 where
+  pub committed : version_bytes told.slot.committed ≡ length_of told.committed
+  pub working : version_bytes told.slot.working ≡ length_of told.working
+
+-- a slot and bytes that suit each other have the same lengths
+abbrev pub HaveLengthsBy : (Contents → Type 0) → Type 0
+HaveLengthsBy suits = (told : Contents) → suits told → HaveLengths told
 
 -- the working version became the committed one, or was given up for it
 abbrev pub settled_form : Form → Form
@@ -65,3 +74,7 @@ listed n = n.page ∷ n.order ∷ n.spaces ∷ n.catalog ∷ n.threshold ∷ []
 abbrev pub NamesThreshold : Edit → Type 0
 NamesThreshold (Create threshold) = IfSome threshold (λ t. (1 ≤ t) × (t ≤ 8192))
 NamesThreshold edit = Unit {0}
+
+-- the rule of a kind of object by which every tree is a good one
+abbrev pub any_tree : Numbers → Tree → Type 0
+any_tree n tree = Unit {0}

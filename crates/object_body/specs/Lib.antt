@@ -1,6 +1,7 @@
 pub mod Lengths
 pub mod Form
 pub mod Places
+pub mod Memory
 pub mod Moves
 pub mod Calls
 pub mod Stored

@@ -5,7 +5,7 @@ use Rattle.geometry_model.specs.Numbers.{Numbers, space_pages}
 use Rattle.geometry_model.specs.Pages.{IsPlace, first_page}
 use Rattle.block_model.specs.Block.{has_page}
 use Rattle.space_directory.specs.SpaceView.{SpaceView, IsSpace}
-use Rattle.superdirectory.specs.Rest.{Frame, Rest, count, IsOf}
+use Rattle.superdirectory.specs.Rest.{Frame, Rest, IsOf}
 
 -- the spaces are those of the store: so many of them, of its pages, each on its data pages
 pub record IsStore (n : Numbers) (frame : Frame) : Type 0 where

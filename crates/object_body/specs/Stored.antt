@@ -1,5 +1,5 @@
 -- What a body is made of, and gives back: a root, a threshold, and the pages of a tree.
-use Rattle.std.specs.Prelude.{◌≡◌, ℕ, suc, ◌*◌, ◌<◌, ◌≤◌, Bool, true, IsTrue, List, [], ◌∷◌}
+use Rattle.std.specs.Prelude.{◌≡◌, ℕ, suc, ◌*◌, ◌≤◌, Bool, true, IsTrue, List, [], ◌∷◌}
 use Rattle.std.specs.Prelude.{nat_lt, Option, Some, None, IfSome, option_map}
 use Rattle.geometry_model.specs.Numbers.{Numbers, space_pages}
 use Rattle.geometry_model.specs.Pages.{is_data_page}
@@ -7,7 +7,7 @@ use Rattle.tree_model.specs.declared.entry.Pair.{Pair}
 use Rattle.tree_model.specs.declared.tree.Root.{Root}
 use Rattle.tree_model.specs.Tree.{IsTreeOf, Pages, entries_of}
 use Rattle.moment_model.specs.Version.{version_uses}
-use Rattle.moment_model.specs.Moment.{ObjectSlot, either_uses}
+use Rattle.moment_model.specs.Moment.{either_uses}
 use Rattle.span_store.specs.Held.{Held, AllSized, bytes_on, has}
 use Rattle.span_store.specs.Calls.{KeepsPages}
 use Rattle.tree_pages.specs.Entry.{Entry}
@@ -26,6 +26,10 @@ abbrev pub threshold_in : Entry → ℕ
 threshold_in None = 0
 threshold_in (Some present) = present.threshold
 
+-- the bytes that the root counts, none where the object is absent
+abbrev pub entry_length : Entry → Option ℕ
+entry_length entry = option_map (λ present. present.root.length) entry
+
 -- each entry of a list may stand behind the one before it, the first one, of number `index`,
 -- behind this one
 abbrev pub AllFit : (ℕ → Option Pair → Pair → Bool) → ℕ → Option Pair → List Pair → Type 0
@@ -38,11 +42,16 @@ pub record IsThreshold (n : Numbers) (threshold : ℕ) : Type 0 where
   pub low : 1 ≤ threshold
   pub high : 2 * threshold ≤ space_pages n
 
--- a present object has a tree on the pages, whose entries the kind allows
+-- a present object has its tree on the pages
+abbrev pub StandsOn : Numbers → Pages → Entry → Type 0
+StandsOn n at None = Unit {0}
+StandsOn n at (Some present) =
+    IsTreeOf n at present.root (entries_of at present.root.height present.root.page)
+
+-- and its entries are such as the kind allows
 abbrev pub HasStoredTree : (ℕ → ℕ → Option Pair → Pair → Bool) → Numbers → Pages → Entry → Type 0
 HasStoredTree fits n at None = Unit {0}
-HasStoredTree fits n at (Some present) =
-    IsTreeOf n at present.root (entries_of at present.root.height present.root.page)
+HasStoredTree fits n at (Some present) = StandsOn n at (Some present)
     × AllFit (fits present.threshold) 0 None (entries_of at present.root.height present.root.page)
 
 -- The held pages are told: the object has its tree there, each page of it once, and they are just
@@ -68,7 +77,7 @@ pub record IsLoad (tells : Bool) (fits : ℕ → ℕ → Option Pair → Pair �
 pub record IsLoaded (tells : Bool) (n : Numbers) (entry : Entry) (held : Held) (form : Form)
     (told : Contents) (new_entry : Entry) (pages : Held) : Type 0 where
   pub numbers : form.numbers ≡ n
-  pub working : form.working ≡ option_map (λ present. present.root.length) entry
+  pub working : form.working ≡ entry_length entry
   pub committed : form.committed ≡ form.working
   pub rests : form.is_resting ≡ true
   pub named : new_entry ≡ entry

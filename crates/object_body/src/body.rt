@@ -1,15 +1,18 @@
 //! The contract of a stored object: two versions, edits that reach the pages of the store, and
 //! ends.
 
-ghost use Rattle.std.specs.Prelude.{◌≡◌, ℕ, ◌<◌, ◌≤◌, IsTrue, option_map, true};
+ghost use Rattle.std.specs.Prelude.{◌≡◌, ℕ, ◌<◌, ◌≤◌, Bool, IsTrue, option_map, true};
 ghost use Rattle.eos_ops.specs.declared.edit.Edit.{Edit as EditView};
 ghost use Rattle.geometry_model.specs.Numbers.{Numbers};
+ghost use Rattle.layout_model.specs.Layout.{Tree};
 ghost use Rattle.moment_model.specs.Moment.{ObjectSlot};
 ghost use Rattle.moment_model.specs.Run.{Lays};
+ghost use Rattle.soundness_laws.specs.Keeping.{KeepsSoundness};
 ghost use Rattle.superdirectory.specs.Rest.{count};
 ghost use Rattle.object_body.specs.Calls.{Stage, IsEdit, IsBodyEnd, IsBodyRead, IsWithin};
 ghost use Rattle.object_body.specs.Form.{Form, Contents, AreTied, NamesThreshold, settled_form};
 ghost use Rattle.object_body.specs.Form.{settled_contents, undone_form, undone_contents};
+ghost use Rattle.object_body.specs.Form.{HaveLengthsBy};
 ghost use Rattle.object_body.specs.Places.{IsReady};
 
 use crate::fails::{EditFail, LookFail};
@@ -34,6 +37,12 @@ pub trait Body: Drop {
     // What this kind of object says of the slot and the bytes of one object.
     ghost suits: { Contents → Type 0 };
 
+    // Does its slot stand for the pages on which the bytes lie? That of one in memory doesn't.
+    ghost on_pages: { Bool };
+
+    // The rule by which a tree is a good one of this kind.
+    ghost good: { Numbers → Tree → Type 0 };
+
     // How an edit of this kind of object is laid out on free pages, from a space on and around.
     ghost laid: { Lays };
 
@@ -53,7 +62,8 @@ pub trait Body: Drop {
     /// The `len` bytes of the working version from `at` on.
     ///
     /// # Errors
-    /// `Fault` and `Memory`. Both versions are as before, whatever the answer.
+    /// `Fault`, and `Memory` if bytes are asked for. Both versions are as before, whatever the
+    /// answer.
     fn read(
         &mut self,
         alloc: Global,
@@ -71,7 +81,8 @@ pub trait Body: Drop {
     /// `start` on and around.
     ///
     /// # Errors
-    /// `NoSpace`, `Fault` and `Memory`. The object, the free pages and the locked ones are as before.
+    /// `NoSpace`, `Fault`, and `Memory` if it isn't a `create`. The object, the free pages and the
+    /// locked ones are as before.
     fn edit<L: Latches<S = <Self::P as Port>::S>>(
         &mut self,
         alloc: Global,
@@ -137,4 +148,10 @@ pub trait Body: Drop {
               rest = L.rest latches.new;
               trace = L.trace latches.new;
             }) };
+
+    // An edit that was granted what it asks for leaves a sound moment sound.
+    ghost keeps_soundness: { KeepsSoundness laid good };
+
+    // Where the slot stands for pages, both its versions have the lengths of the bytes.
+    ghost lengths: { IsTrue on_pages → HaveLengthsBy suits };
 }

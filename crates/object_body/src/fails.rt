@@ -11,7 +11,8 @@ pub enum EditFail {
     /// The device failed: the port's count of faults rose.
     #[error("the device failed")]
     Fault,
-    /// There was no memory, or over a device that doesn't tell a granted page was held already.
+    /// There was no memory, or the spaces granted a page that was held already. A `create` is never
+    /// refused so.
     #[error("out of memory")]
     Memory,
 }
@@ -22,7 +23,7 @@ pub enum LookFail {
     /// The device failed: the port's count of faults rose.
     #[error("the device failed")]
     Fault,
-    /// There was no memory.
+    /// There was no memory for the bytes. A read of no byte is never refused so.
     #[error("out of memory")]
     Memory,
 }

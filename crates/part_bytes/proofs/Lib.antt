@@ -1,3 +1,4 @@
 pub mod RunLemmas
 pub mod WriteLemmas
 pub mod GatherLemmas
+pub mod PartsLemmas

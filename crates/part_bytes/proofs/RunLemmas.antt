@@ -5,17 +5,17 @@ use Rattle.std.proofs.lemmas.Bool.{cases_lt, le-leb, lt-ltb}
 use Rattle.std.proofs.lemmas.List.{length-take, length-drop, take-append-drop}
 use Rattle.std.proofs.lemmas.List.Sums.{sum_by-cons}
 use Rattle.std.proofs.lemmas.List.Concat.{flat_map-cons}
+use Rattle.std.proofs.Math.Nat.{add-mul, mul-le-mul_right}
 use Rattle.std.specs.Prelude.{sum}
 use Rattle.tree_model.specs.Content.{content, segment_bytes}
 use Rattle.tree_model.specs.Tree.{Pages, page_count}
-use Rattle.tree_model.proofs.PageCountLaws.{count-holds, count-behind, count-full, count-none}
+use Rattle.tree_model.proofs.PageCountLaws.{count-holds, count-enough, count-behind, count-full, count-none}
 use Rattle.layout_model.specs.declared.extent.Extent.{Extent}
 use Rattle.layout_model.specs.Layout.{segments_on}
 use Rattle.moment_model.specs.Version.{covers}
 use Rattle.span_store.proofs.Runs.{run_bytes-same}
 use Rattle.seg_bytes.specs.Written.{StandFrom}
 use Rattle.part_bytes.specs.Runs.{StandOn}
-use Rattle.change_laws.proofs.SegmentLemmas.{count-minus}
 
 -- bytes stand where they stood, as long as their pages are the same
 pub StandFrom-same : (at other : Pages) (size first : ℕ) (bytes : List ℕ) →
@@ -42,11 +42,9 @@ count-stretch size left pages count some e = elim (cases_lt left (pages * size))
   | inr full ↦
       let all : count ≡ pages * size = omega (arith, e, full) in
       let a = ap (page_count size) all ∙ count-full size pages some in
-      let b = ap (λ (n : ℕ). page_count size (left - n)) all ∙ count-minus size left pages some in
-      let c : pages ≤ page_count size left =
-      (let parts : pages * size + (left - pages * size) ≡ left = omega (arith, full) in
-      let d = ap (page_count size) (sym parts) ∙ count-behind size pages (left - pages * size) some in
-      omega (arith, d)) in
+      let b = ap (λ (n : ℕ). page_count size (left - n)) all in
+      let parts : left ≡ pages * size + (left - pages * size) = omega (arith, full) in
+      let c = ap (page_count size) parts ∙ count-behind size pages (left - pages * size) some in
       omega (arith, a, b, c)
 ]
 
@@ -66,14 +64,14 @@ StandOn-content at size (run ∷ runs) bytes some room stands =
     let here : segment_bytes at size (record { bytes = min (length bytes) most; page = run.page }) ≡ take most bytes =
     subst (λ (n : ℕ). segment_bytes at size (record { bytes = n; page = run.page }) ≡ take most bytes) size_of stands.0.content in
     let left : length (drop most bytes) ≡ length bytes - most = length-drop most bytes in
-    let room' : page_count size (length (drop most bytes)) ≤ sum (map (λ (r : Extent). r.pages) runs) =
-    omega (
-      arith,
-      ap (page_count size) left,
-      count-minus size (length bytes) run.pages some,
-      room,
-      sum_by-cons (λ n. n) run.pages (map (λ (r : Extent). r.pages) runs),
-    ) in
+    let pages_left = sum (map (λ (r : Extent). r.pages) runs) in
+    let all_pages = sum_by-cons (λ (n : ℕ). n) run.pages (map (λ (r : Extent). r.pages) runs) in
+    let holds = count-holds size (length bytes) some in
+    let enough : page_count size (length bytes) * size ≤ (run.pages + pages_left) * size =
+    mul-le-mul_right size (omega (arith, room, all_pages)) in
+    let rows : (run.pages + pages_left) * size ≡ most + pages_left * size = add-mul run.pages pages_left size in
+    let room' : page_count size (length (drop most bytes)) ≤ pages_left =
+    count-enough size (length (drop most bytes)) pages_left some (omega (arith, left, holds, enough, rows)) in
     flat_map-cons (segment_bytes at size) (record { bytes = min (length bytes) most; page = run.page })
     (segments_on size (length bytes - most) runs)
     ∙ ap (λ (l : List ℕ). l ++ content at size (segments_on size (length bytes - most) runs)) here

@@ -1,18 +1,13 @@
 //! A new part written on its pages.
 
-ghost use Rattle.std.specs.Prelude.{◌≡◌, ◌^◌, ◌<◌, ◌≤◌, [], ◌∷◌, length, map, sum, IsTrue};
-ghost use Rattle.std.specs.Prelude.{IsErr, OnOk, IfSome, Err};
+ghost use Rattle.std.specs.Prelude.{◌≡◌, ◌^◌, ◌<◌, [], ◌∷◌, length, IsErr, IfSome, Err};
 ghost use Rattle.std.specs.List.{AllByRecursion};
 ghost use Rattle.fault_count.specs.Counts.{HasCause};
-ghost use Rattle.tree_model.specs.Content.{content};
-ghost use Rattle.tree_model.specs.Tree.{page_count};
-ghost use Rattle.layout_model.specs.Layout.{segments_on};
 ghost use Rattle.edit_parts.specs.declared.piece.Piece.TheVariants.{Given};
-ghost use Rattle.edit_parts.specs.Pieces.{pieces_bytes, pieces_content};
-ghost use Rattle.span_store.specs.Held.{AllSized, bytes_on};
-ghost use Rattle.part_bytes.specs.Gathering.{CanGather, pieces_reads};
-ghost use Rattle.part_bytes.specs.Parts.{ReadsThenWrites};
-ghost use Rattle.part_bytes.specs.Runs.{CanWriteOn, StandOn, ChangesRuns};
+ghost use Rattle.edit_parts.specs.Pieces.{pieces_bytes};
+ghost use Rattle.part_bytes.specs.Gathering.{CanGather};
+ghost use Rattle.part_bytes.specs.Parts.{HasWrittenPart};
+ghost use Rattle.part_bytes.specs.Runs.{CanWriteOn};
 
 use crate::gathering::gather;
 use crate::writing::write_on;
@@ -53,17 +48,8 @@ pub fn write_part<P: Port>(
     requires each { AllByRecursion (CanGather held.old (P.meter port.old).page
         (length payload.now)) pieces.now }
     requires fits { pieces_bytes pieces.now < 2 ^ 64 }
-    ensures bytes { OnOk result (IsTrue P.S.tells
-        → StandOn (bytes_on held.new) (P.meter port.old).page runs.now
-        (pieces_content (bytes_on held.old) (P.meter port.old).page payload.now pieces.now)) }
-    ensures content { OnOk result (IsTrue P.S.tells
-        → content (bytes_on held.new) (P.meter port.old).page
-        (segments_on (P.meter port.old).page (pieces_bytes pieces.now) runs.now)
-        ≡ pieces_content (bytes_on held.old) (P.meter port.old).page payload.now pieces.now) }
-    ensures others { ChangesRuns P.S.tells (P.meter port.old).page runs.now held.old held.new }
-    ensures moves { ReadsThenWrites (pieces_reads (P.meter port.old).page pieces.now)
-        (page_count (P.meter port.old).page (pieces_bytes pieces.now))
-        (P.meter port.old) (P.meter port.new) }
+    ensures written { HasWrittenPart P.S.tells (P.meter port.old).page payload.now pieces.now
+        runs.now result held.old held.new (P.meter port.old) (P.meter port.new) }
     ensures cause { HasCause (P.meter port.old).faults (P.meter port.new).faults
         (result ≡ Err WriteFail.Fault) }
 {
@@ -121,17 +107,8 @@ fn gather_and_write<P: Port>(
     requires long { length part.old ≡ pieces_bytes pieces.now }
     requires each { AllByRecursion (CanGather held.old (P.meter port.old).page
         (length payload.now)) pieces.now }
-    ensures bytes { OnOk result (IsTrue P.S.tells
-        → StandOn (bytes_on held.new) (P.meter port.old).page runs.now
-        (pieces_content (bytes_on held.old) (P.meter port.old).page payload.now pieces.now)) }
-    ensures content { OnOk result (IsTrue P.S.tells
-        → content (bytes_on held.new) (P.meter port.old).page
-        (segments_on (P.meter port.old).page (pieces_bytes pieces.now) runs.now)
-        ≡ pieces_content (bytes_on held.old) (P.meter port.old).page payload.now pieces.now) }
-    ensures others { ChangesRuns P.S.tells (P.meter port.old).page runs.now held.old held.new }
-    ensures moves { ReadsThenWrites (pieces_reads (P.meter port.old).page pieces.now)
-        (page_count (P.meter port.old).page (pieces_bytes pieces.now))
-        (P.meter port.old) (P.meter port.new) }
+    ensures written { HasWrittenPart P.S.tells (P.meter port.old).page payload.now pieces.now
+        runs.now result held.old held.new (P.meter port.old) (P.meter port.new) }
     ensures cause { HasCause (P.meter port.old).faults (P.meter port.new).faults (IsErr result) }
 {
     gather(held, port, pieces, payload, part, scratch)?;

@@ -6,13 +6,14 @@ ghost use Rattle.edit_parts.specs.Pieces.{pieces_bytes};
 ghost use Rattle.span_store.specs.Held.{AllSized, HoldsRun};
 ghost use Rattle.part_bytes.specs.Gathering.{CanGather};
 
-use crate::{WriteFail, write_part};
-use edit_parts::{Piece, Pieces};
+use crate::{WriteFail, write_part, write_parts};
+use edit_parts::{Part, Piece, Pieces};
 use layout_model::Extent;
 use page_port::{Bay, FailAt, MemBay, MemPort, MemSpan};
 use span_store::Holdings;
 use std::alloc::{AllocError, Global};
 use std::process::Abort;
+use tree_model::Pair;
 
 /// Byte `i` of the device.
 fn byte(i: usize) -> u8 {
@@ -119,6 +120,49 @@ fn put(
     write_part(alloc, held, port, pieces, payload, &runs, &mut scratch)
 }
 
+/// Writes a part behind one that stays: 600 bytes of the payload from byte 2 on, put on the pages 1
+/// and 2 and then on page 4.
+fn put_behind(
+    rt: &impl Abort,
+    alloc: Global,
+    held: &mut Holdings<MemSpan>,
+    port: &mut MemPort,
+) -> Result<Result<(), WriteFail>, AllocError>
+    requires page { port.old.meter.page ≡ 256 }
+    requires sized { AllSized true 256 held.old }
+    ensures page { IfOk result (λ r. port.new.meter.page ≡ 256) }
+    ensures sized { IfOk result (λ r. AllSized true 256 held.new) }
+{
+    let mut payload = [0; 602];
+    for (i, each) in payload.iter_mut().enumerate() {
+        *each = given(i);
+    }
+    let mut pieces = Pieces::with_room(alloc, 1)?;
+    pieces.push(Piece::Given {
+        from: 2,
+        bytes: 600,
+    })?;
+    let kept = Pair {
+        bytes: 300,
+        page: 6,
+    };
+    let parts = [Part::Keep(kept), Part::Make(pieces)];
+    assert!(rt; held.holds(1, 2));
+    assert!(rt; held.holds(4, 1));
+    let runs = [Extent { page: 1, pages: 2 }, Extent { page: 4, pages: 1 }];
+    let mut scratch = [9; 256];
+    Ok(write_parts(
+        alloc,
+        held,
+        port,
+        &parts,
+        &payload,
+        &[2],
+        &runs,
+        &mut scratch,
+    ))
+}
+
 /// All pages.
 fn pages(rt: &impl Abort, held: &Holdings<MemSpan>, port: &mut MemPort) -> [u8; 2048]
     requires page { port.old.meter.page ≡ 256 }
@@ -164,6 +208,18 @@ fn a_part_is_written_on_its_runs(rt: HostRuntime) -> Result<(), AllocError> {
             assert!(rt; old <= bytes);
             assert_eq!(rt; out[i], want(i, old, bytes), "byte {i}, {old} old");
         }
+    }
+    Ok(())
+}
+
+#[test]
+fn a_part_that_stays_is_passed_over(rt: HostRuntime) -> Result<(), AllocError> {
+    let alloc = rt.alloc();
+    let (mut port, mut held) = device(&rt, alloc, true, 3)?;
+    assert!(rt; put_behind(&rt, alloc, &mut held, &mut port)?.is_ok());
+    let out = pages(&rt, &held, &mut port);
+    for i in 0..2048 {
+        assert_eq!(rt; out[i], want(i, 0, 600), "byte {i}");
     }
     Ok(())
 }

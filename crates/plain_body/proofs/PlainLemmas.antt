@@ -1,16 +1,14 @@
 -- The calls of an object in memory, as those of a body.
-use Rattle.std.proofs.Common.{◌≡◌, ℕ, ◌+◌, ◌≤◌, Bool, true, false, IsTrue, List, length, take, drop, Option, Some}
+use Rattle.std.proofs.Common.{◌≡◌, ℕ, ◌+◌, ◌<◌, ◌≤◌, Bool, List, length, take, drop, Option, Some}
 use Rattle.std.proofs.Common.{None, Result, Ok, Err, refl, sym, ap, subst, arith, ◌∙◌, inl, inr}
-use Rattle.std.specs.Prelude.{nat_le, if◌then◌else◌, IfOk}
-use Rattle.std.proofs.lemmas.Bool.{le-leb}
+use Rattle.std.specs.Prelude.{IfOk}
 use Rattle.std.proofs.lemmas.List.{length-take-le, length-drop}
 use Rattle.base_laws.proofs.OptionLaws.{some-inner}
 use Rattle.eos_ops.specs.declared.edit.Edit.{Edit}
 use Rattle.eos_ops.specs.declared.outcome.Outcome.{Outcome}
 use Rattle.eos_ops.specs.declared.outcome.Outcome.TheVariants.{Done}
 use Rattle.eos_ops.specs.declared.plain.Plain.{Plain}
-use Rattle.eos_ops.specs.declared.plain.Plain.TheVariants.{Absent, Present}
-use Rattle.eos_ops.specs.declared.reply.Reply.{Reply}
+use Rattle.eos_ops.specs.declared.plain.Plain.TheVariants.{Present}
 use Rattle.eos_ops.specs.declared.reply.Reply.TheVariants as reply
 use Rattle.eos_ops.specs.Edits.{outcome_in, edited}
 use Rattle.eos_ops.specs.Objects.{read_in}
@@ -24,12 +22,13 @@ use Rattle.superdirectory.proofs.Traces.{part_none}
 use Rattle.object_body.specs.declared.fails.EditFail.TheVariants as edit_fail
 use Rattle.object_body.specs.declared.fails.LookFail.{LookFail}
 use Rattle.object_body.specs.declared.fails.LookFail.TheVariants as look
-use Rattle.object_body.specs.Form.{Form, Contents, AreTied}
+use Rattle.object_body.specs.Form.{AreTied}
 use Rattle.object_body.specs.Lengths.{length_of}
 use Rattle.object_body.specs.Calls.{Stage, IsEdit, IsBodyRead, IsWithin, IsExplained}
+use Rattle.object_body.specs.Memory.{EditMayTakeMemory}
 use Rattle.object_body.proofs.LengthLemmas.{outcome-by_length, length-edited, cases_done}
 use Rattle.object_body.proofs.MoveLemmas.{same-moves}
-use Rattle.object_body.proofs.CallLemmas.{used-not, cause-none, keeps-frame, no-memory}
+use Rattle.object_body.proofs.CallLemmas.{used-not, cause-none, keeps-frame, no-memory, read-of}
 use Rattle.plain_body.specs.Kind.{working_plain, plain_form, plain_contents, HasNoPage, lays_nothing}
 
 -- what it shows, with the spaces beside it
@@ -79,6 +78,7 @@ plain-edit tells start edit outcome n committed old new rest trace meter none is
       low = part_none (IsExplained (count rest) (Ok outcome)) trace tt;
       port = used-not meter;
       cause = cause-none meter.faults (Ok outcome ≡ Err edit_fail.Fault) (λ same. absurd cc);
+      memory = λ wanted. absurd cc;
       told = λ tell. record {
         working = now;
         committed = refl;
@@ -94,19 +94,15 @@ plain-edit tells start edit outcome n committed old new rest trace meter none is
 
 -- an edit that no memory was there for
 pub plain-no_memory : (tells : Bool) (start : ℕ) (edit : Edit) (n : Numbers) (committed : Plain) (old new : Option Plain) (rest : Rest)
-    (trace : Option (List SpaceEvent)) (meter : Meter) → rest.entered ≡ None → new ≡ old →
+    (trace : Option (List SpaceEvent)) (meter : Meter) → rest.entered ≡ None → new ≡ old → EditMayTakeMemory edit →
     IsEdit tells HasNoPage lays_nothing (λ n slot pages. ⊥) (λ n old edit new pages. pages ≡ 0) start edit (Err edit_fail.Memory)
     (plain_stage n committed old rest trace) (plain_stage n committed new rest trace) meter meter
-plain-no_memory tells start edit n committed old new rest trace meter none same =
+plain-no_memory tells start edit n committed old new rest trace meter none same may =
     subst (λ working. IsEdit tells HasNoPage lays_nothing (λ n slot pages. ⊥)
     (λ n old edit new pages. pages ≡ 0) start edit (Err edit_fail.Memory)
     (plain_stage n committed old rest trace) (plain_stage n committed working rest trace) meter meter) (sym same)
     (no-memory tells HasNoPage lays_nothing (λ n slot pages. ⊥) (λ n old edit new pages. pages ≡ 0) start edit
-    (plain_stage n committed old rest trace) meter none refl (λ tell. plain-tied n committed old))
-
--- a read, whatever it answers
-read-of : (at len : ℕ) (x : List ℕ) → at + len ≤ length x → read_in at len (Present x) ≡ reply.Bytes (take len (drop at x))
-read-of at len x within = rw (le-leb (at + len) (length x) within) refl
+    (plain_stage n committed old rest trace) meter none refl (λ tell. plain-tied n committed old) may)
 
 -- the range of a read lies within the bytes
 pub within-of : (committed : Plain) (working : Option Plain) (x : List ℕ) (at len : ℕ) → working_plain committed working ≡ Present x →
@@ -119,11 +115,11 @@ within-of committed working x at len now within =
 pub plain-read : (tells : Bool) (at len : ℕ) (result : Result (List ℕ) LookFail) (n : Numbers) (committed : Plain)
     (working : Option Plain) (x : List ℕ) (meter : Meter) →
     working_plain committed working ≡ Present x → at + len ≤ length x →
-    IfOk result (λ bytes. bytes ≡ take len (drop at x)) → (result ≡ Err look.Fault → ⊥) →
+    IfOk result (λ bytes. bytes ≡ take len (drop at x)) → (result ≡ Err look.Fault → ⊥) → (result ≡ Err look.Memory → 0 < len) →
     IsBodyRead tells HasNoPage (λ n slot bytes pages. pages ≡ 0) at len result (plain_form n committed working)
     (plain_form n committed working)
     (plain_contents committed working) (plain_contents committed working) meter meter
-plain-read tells at len result n committed working x meter now within gives no_fault = record {
+plain-read tells at len result n committed working x meter now within gives no_fault some = record {
   same = refl;
   count = counts result gives;
   bytes = λ tell. shows result gives;
@@ -131,6 +127,7 @@ plain-read tells at len result n committed working x meter now within gives no_f
   reads = λ tell. record { pages = 0; allowed = refl; none = refl; most = omega arith };
   port = used-not meter;
   cause = cause-none meter.faults (result ≡ Err look.Fault) no_fault;
+  memory = some;
   tied = λ tell. plain-tied n committed working;
 } where
   counts : (result : Result (List ℕ) LookFail) → IfOk result (λ bytes. bytes ≡ take len (drop at x)) →

@@ -1,5 +1,5 @@
 -- What an object in memory is to the store: it uses no page, and none is asked for.
-use Rattle.std.specs.Prelude.{◌≡◌, ℕ, Bool, Option, IsTrue, is_none, unwrap_or}
+use Rattle.std.specs.Prelude.{◌≡◌, ℕ, Option, is_none, unwrap_or}
 use Rattle.eos_ops.specs.declared.edit.Edit.{Edit}
 use Rattle.eos_ops.specs.declared.plain.Plain.{Plain}
 use Rattle.geometry_model.specs.Numbers.{Numbers}

@@ -2,9 +2,10 @@
 //!
 //! The copy is made in one piece, with room for just the edited bytes.
 
-ghost use Rattle.std.specs.Prelude.{◌≡◌, ◌+◌, ◌≤◌, ◌++◌, length, take, drop, IfOk};
+ghost use Rattle.std.specs.Prelude.{◌≡◌, ◌+◌, ◌≤◌, ◌++◌, length, take, drop, IfOk, OnErr};
 ghost use Rattle.eos_ops.specs.declared.outcome.Outcome.TheVariants.{Done};
 ghost use Rattle.eos_ops.specs.Edits.{outcome_in, edited};
+ghost use Rattle.object_body.specs.Memory.{EditMayTakeMemory};
 
 use eos_ops::{Bytes, Edit, Plain};
 use std::alloc::{AllocError, Global};
@@ -12,7 +13,8 @@ use std::alloc::{AllocError, Global};
 /// The edited object as a new one.
 pub(crate) fn edited_copy(alloc: Global, edit: &Edit, object: &Plain) -> Result<Plain, AllocError>
     requires { outcome_in edit.now object.now ≡ Done }
-    ensures { IfOk result (λ copy. copy ≡ edited edit.now object.now) }
+    ensures copy { IfOk result (λ copy. copy ≡ edited edit.now object.now) }
+    ensures memory { OnErr result (EditMayTakeMemory edit.now) }
 {
     let Plain::Present(bytes) = object else {
         return Ok(Plain::Present(Bytes::new(alloc)));

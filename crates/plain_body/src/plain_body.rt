@@ -1,9 +1,12 @@
 //! An object that is a byte string in memory, as a body.
 
-ghost use Rattle.std.specs.Prelude.{◌≡◌, None, Some, IfOk, OnErr, Ok};
+ghost use Rattle.std.specs.Prelude.{◌≡◌, None, Some, IfOk, OnErr, Ok, false};
 ghost use Rattle.eos_ops.specs.Edits.{outcome_in, edited};
+ghost use Rattle.object_body.specs.Form.{any_tree};
+ghost use Rattle.object_body.specs.Memory.{EditMayTakeMemory};
 ghost use Rattle.plain_body.specs.Kind.{plain_form, plain_contents, working_plain, HasNoPage};
 ghost use Rattle.plain_body.specs.Kind.{lays_nothing};
+ghost use Rattle.plain_body.specs.Laws.{keeps-nothing, no-lengths};
 
 use crate::copy::edited_copy;
 use eos_ops::{Bytes, Edit, Outcome, Plain, apply_plain};
@@ -60,6 +63,10 @@ impl<P: Port> Body for PlainBody<P> {
 
     ghost suits = { HasNoPage };
 
+    ghost on_pages = { false };
+
+    ghost good = { any_tree };
+
     ghost laid = { lays_nothing };
 
     ghost may_refuse = { λ n slot pages. ⊥ };
@@ -109,6 +116,10 @@ impl<P: Port> Body for PlainBody<P> {
     fn undo<L: Latches<S = P::S>>(&mut self, _latches: &mut L, _turn: &mut L::Turn) {
         self.working = None;
     }
+
+    ghost keeps_soundness = { keeps-nothing };
+
+    ghost lengths = { no-lengths };
 }
 
 /// Edits the working version alone, which is made by the first edit. After any answer but `Done`
@@ -125,6 +136,7 @@ fn change(
         → working.new ≡ Some (edited edit.now (working_plain committed.now working.old)) }
     ensures unmade { IfOk result
         (λ outcome. (outcome ≡ Outcome.Done → ⊥) → working.new ≡ working.old) }
+    ensures memory { OnErr result (EditMayTakeMemory edit.now) }
     ensures err { OnErr result (working.new ≡ working.old) }
 {
     if let Some(object) = working {

@@ -27,6 +27,7 @@ use Rattle.change_laws.specs.Tail.{IsTail, HaveTails}
 use Rattle.change_laws.specs.Laying.{IsChange}
 use Rattle.soundness_laws.specs.Keeping.{AsksThreshold}
 use Rattle.soundness_laws.specs.LetGo.{laid_slot, is_let_go}
+use Rattle.change_laws.proofs.SuitLemmas.{granted-suits}
 use Rattle.change_laws.proofs.ChangeLemmas.{granted-used, laid-on}
 
 -- ---- an edit of an object
@@ -164,7 +165,8 @@ effect-edited n start moment slot (Changes tree change) after left range good ta
         let spaces = free_of-spaces n moment in
         let good_tree : IsGood n tree = subst (IsGoodVersion IsGood n) is.0 good in
         let tail_tree : IsTail n (Some tree) slot.spare = subst (λ (v : Version). IsTail n v slot.spare) is.0 tail in
-        let on = laid-on n start tree slot.spare change (free_of n moment) rest grants range good_tree tail_tree is.1 spaces was in
+        let suits = granted-suits n start tree slot.spare change (free_of n moment) rest grants spaces was in
+        let on = laid-on n tree slot.spare change grants range good_tree tail_tree is.1 suits in
         let took = granted-took n start tree slot.spare change (free_of n moment) rest grants spaces was in
         let new = laid n tree slot.spare change grants in
         subst (Edited n (λ page. is_free n page moment) slot)
@@ -232,8 +234,9 @@ free-after_change n held start moment o tree change left grants range sound tail
     let spaces = free_of-spaces n moment in
     let good : IsGood n tree = subst (IsGoodVersion IsGood n) working (sound.kept o).working in
     let tail : IsTail n (Some tree) slot.spare = subst (λ (v : Version). IsTail n v slot.spare) working (tails o) in
-    let on = laid-on n start tree slot.spare change (free_of n moment) left grants range good tail is spaces got in
-    let used = granted-used n start tree slot.spare change (free_of n moment) left grants range good tail is spaces got page in
+    let suits = granted-suits n start tree slot.spare change (free_of n moment) left grants spaces got in
+    let on = laid-on n tree slot.spare change grants range good tail is suits in
+    let used = granted-used n tree slot.spare change grants range good tail is suits page in
     let took = granted-took n start tree slot.spare change (free_of n moment) left grants spaces got in
     let once = took.once page in
     let same = ap count_true (is_among-free n moment page s at place_is) in

@@ -80,7 +80,7 @@ impl<B: Body<P = MemPort>, H: Annals> Session<B, H> {
         self.txn.begin()
     }
 
-    pub fn hold(&mut self, rt: &impl Abort, o: u64) -> Result<(), HoldFail> {
+    pub fn hold(&mut self, rt: &impl Abort, o: u64) -> Result<bool, HoldFail> {
         assert!(rt; self.txn.is_open());
         self.txn.hold(&mut self.shelf, o)
     }

@@ -58,7 +58,8 @@ fn free_space(alloc: Global) -> Option<Solo<MemSpan>>
 #[derive(Drop)]
 enum Row {
     Begin(Result<(), BeginFail>),
-    Hold(u64, Result<(), HoldFail>),
+    /// Says whether it takes the object in this row.
+    Hold(u64, Result<bool, HoldFail>),
     Create(u64, Result<(), TxnFail>),
     /// Five bytes more.
     Append(u64, Result<(), TxnFail>),
@@ -188,7 +189,7 @@ fn a_commit_keeps_what_an_abort_loses(rt: HostRuntime) {
         Row::Begin(Ok(())),
         Row::Begin(Err(BeginFail::Active)),
         Row::Hold(32, Err(HoldFail::NoObject)),
-        Row::Hold(3, Ok(())),
+        Row::Hold(3, Ok(true)),
         Row::Length(3, Err(TxnFail::Missing)),
         Row::Append(3, Err(TxnFail::Missing)),
         Row::Create(3, Ok(())),
@@ -199,12 +200,12 @@ fn a_commit_keeps_what_an_abort_loses(rt: HostRuntime) {
         Row::Read(3, 1, 5, Err(TxnFail::Range(5))),
         Row::Commit(1),
         Row::Begin(Ok(())),
-        Row::Hold(3, Ok(())),
+        Row::Hold(3, Ok(true)),
         Row::Append(3, Ok(())),
         Row::Length(3, Ok(10)),
         Row::Abort(2),
         Row::Begin(Ok(())),
-        Row::Hold(3, Ok(())),
+        Row::Hold(3, Ok(true)),
         Row::Length(3, Ok(5)),
         Row::Counts(16, 0),
         Row::Commit(3),
@@ -220,7 +221,7 @@ fn what_is_refused_is_refused_by_the_length(rt: HostRuntime) {
     };
     for row in [
         Row::Begin(Ok(())),
-        Row::Hold(0, Ok(())),
+        Row::Hold(0, Ok(true)),
         Row::Read(0, 0, 0, Err(TxnFail::Missing)),
         Row::Create(0, Ok(())),
         Row::AppendNone(0, Ok(())),
@@ -246,18 +247,18 @@ fn sixteen_objects_are_held_at_most(rt: HostRuntime) {
     };
     play(&rt, rt.alloc(), &mut session, Row::Begin(Ok(())));
     for o in 0..16 {
-        play(&rt, rt.alloc(), &mut session, Row::Hold(o, Ok(())));
+        play(&rt, rt.alloc(), &mut session, Row::Hold(o, Ok(true)));
         play(&rt, rt.alloc(), &mut session, Row::Create(o, Ok(())));
     }
     for row in [
         Row::Counts(0, 0),
         Row::Hold(16, Err(HoldFail::Full)),
         Row::Hold(32, Err(HoldFail::NoObject)),
-        Row::Hold(15, Ok(())),
+        Row::Hold(15, Ok(false)),
         Row::Abort(1),
         Row::Counts(16, 0),
         Row::Begin(Ok(())),
-        Row::Hold(0, Ok(())),
+        Row::Hold(0, Ok(true)),
         Row::Length(0, Err(TxnFail::Missing)),
         Row::Commit(2),
     ] {
@@ -272,8 +273,8 @@ fn pages_go_back_at_the_end(rt: HostRuntime) {
     };
     for row in [
         Row::Begin(Ok(())),
-        Row::Hold(0, Ok(())),
-        Row::Hold(1, Ok(())),
+        Row::Hold(0, Ok(true)),
+        Row::Hold(1, Ok(true)),
         Row::Create(0, Ok(())),
         Row::Create(1, Ok(())),
         Row::Counts(14, 0),
@@ -283,18 +284,18 @@ fn pages_go_back_at_the_end(rt: HostRuntime) {
         Row::Commit(1),
         Row::Counts(15, 0),
         Row::Begin(Ok(())),
-        Row::Hold(0, Ok(())),
+        Row::Hold(0, Ok(true)),
         Row::AppendNone(0, Ok(())),
         Row::Counts(14, 1),
         Row::Abort(2),
         Row::Counts(15, 0),
         Row::Begin(Ok(())),
-        Row::Hold(0, Ok(())),
+        Row::Hold(0, Ok(true)),
         Row::AppendNone(0, Ok(())),
         Row::Commit(3),
         Row::Counts(15, 0),
         Row::Begin(Ok(())),
-        Row::Hold(0, Ok(())),
+        Row::Hold(0, Ok(true)),
         Row::Length(0, Ok(0)),
         Row::Destroy(0, Ok(())),
         Row::Counts(15, 1),

@@ -1,6 +1,5 @@
 -- A page that was granted, and is owned already, went back.
-use Rattle.body_double.specs.Kind.{OwnPage}
-use Rattle.body_double.specs.Page.{IsGrantedPage}
+use Rattle.body_double.specs.Page.{OwnPage, IsGrantedPage}
 use Rattle.body_double.proofs.PageLemmas.{back-untouched}
 use Rattle.body_double.proofs.owned.ask.Goals as goal
 

@@ -11,10 +11,7 @@ invariant_of-result g c = kept-of g.P.S.Span.tells (fits_all c.args.geometry.now
 
 pub returns : goal.returns
 returns g c = record {
-  loaded = kept-loaded g.P.S.Span.tells (record {
-    numbers = c.args.geometry.now;
-    entry = entry_of c.args.root c.args.threshold;
-    held = c.in_ok-held.held;
-  }) c.args.held.now (sym c.take.ensures.value ∙ c.in_ok-held.was);
+  loaded = kept-loaded g.P.S.Span.tells c.args.geometry.now (entry_of c.args.root c.args.threshold) c.in_ok-held.held
+      c.args.held.now (sym c.take.ensures.value ∙ c.in_ok-held.was);
   stays = λ none. absurd cc;
 }

@@ -15,6 +15,7 @@ use Rattle.body_txn.specs.Calls.{IsCallOf, MakesEdit}
 use Rattle.body_txn.specs.Fields.{at_annals, at_body, frame_by, LegalBy}
 use Rattle.shadow_txn.proofs.ActLemmas.{no_memory}
 use Rattle.body_txn.proofs.ActLemmas.{IsEditTold, led-edit, edit-told, edit-numbers}
+use Rattle.body_txn.proofs.WantLemmas.{edit-wants}
 use Rattle.body_txn.proofs.PlaceLemmas.{IsAt, is-at, at-found, call-held, call-noted, done-none, Turned, turned-not}
 use Rattle.body_txn.proofs.ServingLemmas.{goes-on, suits-kept}
 use Rattle.body_txn.proofs.txn.Txn.edit.Goals as goal
@@ -170,6 +171,14 @@ returns-clause-right g c = λ tell.
     elim c.edit_held.ensures [
       | inl none ↦ λ own. absurd (no_memory _ own (ap edit_reply none.1.0))
       | inr made ↦ rw (at g c).found (told g c made tell).right
+    ]
+
+pub returns-clause-memory : goal.returns-clause-memory
+returns-clause-memory g c = λ quiet is.
+    elim c.edit_held.ensures [
+      | inl none ↦ let never = none.0 in absurd cc
+      | inr made ↦ edit-wants _ _ _ _ _ _ _ _ (stage g c c.index_mut.result.now.object) (stage_after g c made.now) _ _ made.made.1
+          (ap edit_reply is)
     ]
 
 pub returns-clause-goes_on : goal.returns-clause-goes_on

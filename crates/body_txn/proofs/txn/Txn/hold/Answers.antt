@@ -80,8 +80,9 @@ returns-clause-agree g c = λ t under agree.
 
 pub returns-clause-hold : goal.returns-clause-hold
 returns-clause-hold g c = record {
-  again = λ some. let other = sym c.holds.ensures ∙ c.if-holds.false in absurd cc;
-  ok = λ none. record { object = c.in_ok-object.object; taken = taken g c; held = whole g c };
+  again = (λ same. absurd cc, λ some. let other = sym c.holds.ensures ∙ c.if-holds.false in absurd cc);
+  same = λ same. absurd cc;
+  took = λ same. record { object = c.in_ok-object.object; taken = taken g c; held = whole g c };
   err = tt;
   left = tt;
 }

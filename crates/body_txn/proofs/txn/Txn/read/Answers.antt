@@ -12,6 +12,7 @@ use Rattle.shadow_txn.proofs.ServingLemmas.{sound-set}
 use Rattle.body_txn.specs.Acts.{IsLedBy}
 use Rattle.body_txn.specs.Fields.{at_annals, at_body, frame_by, LegalBy}
 use Rattle.body_txn.proofs.ActLemmas.{IsReadTold, led-read, read-told, read-form}
+use Rattle.body_txn.proofs.WantLemmas.{read-wants}
 use Rattle.body_txn.proofs.PlaceLemmas.{IsAt, is-at, at-found, call-held}
 use Rattle.body_txn.proofs.ServingLemmas.{goes-on, suits-kept}
 use Rattle.body_txn.proofs.txn.Txn.read.Goals as goal
@@ -87,6 +88,10 @@ returns-clause-read g c = record {
 
 pub returns-clause-right : goal.returns-clause-right
 returns-clause-right g c = λ tell. rw (at g c).found (told g c tell).right
+
+pub returns-clause-memory : goal.returns-clause-memory
+returns-clause-memory g c = λ quiet is.
+    read-wants _ _ _ _ _ _ _ _ _ _ _ _ _ c.read_held.ensures.made.1 quiet (ap bytes_reply is)
 
 -- the terms of the object are kept
 suits : (g : _) (c : goal.After-self-1 g) (t : Terms)

@@ -18,5 +18,5 @@ returns-in-Err g c =
     record {
       edit = plain-no_memory g.P.S.Span.tells c.args._start c.args.edit.now self.geometry self.committed self.working c.change.new.working
           (g.L.Hints.rest c.args._latches.now) (g.L.Hints.trace c.args._latches.now) (g.P.Port.meter c.args._port.now) c.requires.ready.none
-          c.in-Err.ensures.err;
+          c.in-Err.ensures.err c.in-Err.ensures.memory;
     }

@@ -1,4 +1,4 @@
-use Rattle.std.proofs.Common.{◌≡◌, Ok, Err, refl, sym, ◌∙◌, arith}
+use Rattle.std.proofs.Common.{Ok, Err, sym, ◌∙◌}
 use Rattle.plain_body.proofs.plain_body.PlainBodyBody.read.Goals as goal
 use Rattle.object_body.specs.declared.fails.LookFail.TheVariants.{Memory}
 use Rattle.plain_body.proofs.PlainLemmas.{plain-read, within-of}
@@ -10,7 +10,7 @@ returns-in-Ok g c =
     record {
       read = plain-read g.P.S.Span.tells c.args.at c.args.len (Ok c.in-Ok.copy) self.geometry self.committed self.working c.in-Present.bytes
           (g.P.Port.meter c.args._port.now) now (within-of self.committed self.working c.in-Present.bytes c.args.at
-          c.args.len now c.requires.within) c.in-Ok.ensures.copy (λ same. absurd cc);
+          c.args.len now c.requires.within) c.in-Ok.ensures.copy (λ same. absurd cc) (λ same. absurd cc);
     }
 
 pub returns-in-Err : goal.returns-in-Err
@@ -20,5 +20,5 @@ returns-in-Err g c =
     record {
       read = plain-read g.P.S.Span.tells c.args.at c.args.len (Err Memory) self.geometry self.committed self.working c.in-Present.bytes
           (g.P.Port.meter c.args._port.now) now (within-of self.committed self.working c.in-Present.bytes c.args.at
-          c.args.len now c.requires.within) tt (λ same. absurd cc);
+          c.args.len now c.requires.within) tt (λ same. absurd cc) (λ same. c.in-Err.ensures.memory);
     }

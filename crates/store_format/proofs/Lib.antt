@@ -1,0 +1,4 @@
+pub mod RowLemmas
+pub mod WritingLemmas
+pub mod BlankLemmas
+pub mod FormatLemmas

@@ -1,0 +1,5 @@
+pub mod Rows
+pub mod Writing
+pub mod Blank
+pub mod Formatting
+pub mod Absorbed

@@ -1,0 +1,4 @@
+pub mod PieceLemmas
+pub mod RoomLemmas
+pub mod MadeLemmas
+pub mod AskedLemmas
