@@ -59,12 +59,16 @@ shown tells n fits entry held some sized tell tree =
     let full : AreFull n (bytes_on held) entry =
     λ q used. sized-page tells n.page held q sized tell
     (tree.just q ∙ lt-ltb 0 (version_uses n q (version_at (bytes_on held) entry)) used) in
-    let long = has-length n (bytes_on held) entry some (stands-of n fits held entry tree.tree) full in
-    record { bytes = long.root; version = long.version; just = tree.just }
+    let stands = stands-of n fits held entry tree.tree in
+    let long = has-length n (bytes_on held) entry some stands full in
+    record { tree = stands; bytes = long.root; version = long.version; just = tree.just }
 
 -- a new object has no byte, and uses no page
+new-stands : (n : Numbers) (held : Held) → StandsOn n (bytes_on held) new_entry
+new-stands n held = record { shape = (refl, refl); listed = refl; nodes = tt; segments = tt }
+
 new-shown : (n : Numbers) (held : Held) → IsShown n None held → IsShown n new_entry held
-new-shown n held is = record { bytes = refl; version = refl; just = is.just }
+new-shown n held is = record { tree = new-stands n held; bytes = refl; version = refl; just = is.just }
 
 -- ---- what the object shows
 
@@ -393,12 +397,19 @@ kept-just n entry false held is absent page = is.just page ∙ twice-some (versi
 kept-just n None true held is absent page = is.just page
 kept-just n (Some present) true held is absent page = let never : Some present ≡ None = absent refl in absurd cc
 
+-- the tree of its working version stands on them
+kept-stands : (n : Numbers) (entry : Entry) (created : Bool) (held : Held) → IsShown n entry held →
+    StandsOn n (bytes_on held) (working_entry entry created)
+kept-stands n entry true held is = new-stands n held
+kept-stands n entry false held is = is.tree
+
 pub kept-keeping : (tells : Bool) (v : KeptView) → KeepsTree tells v →
     IsKeeping tells (kept_form v) (kept_contents v) (working_entry v.entry v.created) v.held
 kept-keeping tells v kept = record {
   on_data = kept.on_data;
   sized = kept.sized;
   just = λ tell. kept-just v.numbers v.entry v.created v.held (kept.shown tell) kept.absent;
+  tree = λ tell. kept-stands v.numbers v.entry v.created v.held (kept.shown tell);
   version = λ tell. refl;
   bytes = λ tell. refl;
 }

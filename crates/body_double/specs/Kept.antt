@@ -15,7 +15,7 @@ use Rattle.tree_pages.specs.Entry.{Entry}
 use Rattle.tree_pages.specs.Levels.{version_at, plain_at}
 use Rattle.object_body.specs.Form.{Form, Contents}
 use Rattle.object_body.specs.Lengths.{length_of}
-use Rattle.object_body.specs.Stored.{entry_length}
+use Rattle.object_body.specs.Stored.{StandsOn, entry_length}
 
 -- The entry of its committed version and the pages that it holds, which are that version's; and
 -- whether an edit has created the object, which was absent.
@@ -66,9 +66,10 @@ lays_kept n start free slot edit = Got slot free
 abbrev pub fits_all : Numbers → ℕ → ℕ → Option Pair → Pair → Bool
 fits_all n threshold index before pair = true
 
--- The held pages are told: their tree has the bytes that its root counts, and they are just the
--- tree's.
+-- The held pages are told: the tree stands on them and has the bytes that its root counts, and they
+-- are just the tree's.
 pub record IsShown (n : Numbers) (entry : Entry) (held : Held) : Type 0 where
+  pub tree : StandsOn n (bytes_on held) entry
   pub bytes : entry_length entry ≡ length_of (plain_at (bytes_on held) n.page entry)
   pub version : version_bytes (version_at (bytes_on held) entry)
       ≡ length_of (plain_at (bytes_on held) n.page entry)

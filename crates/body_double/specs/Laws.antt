@@ -1,6 +1,6 @@
 -- The laws of a body, for these objects.
-use Rattle.std.proofs.Common.{◌≡◌, ℕ, ◌≤◌, Bool, true, IsTrue, [], ◌∷◌, map, Some, None, refl, sym}
-use Rattle.std.proofs.Common.{ap, subst, arith, ◌∙◌}
+use Rattle.std.proofs.Common.{◌≡◌, ℕ, ◌≤◌, Bool, true, IsTrue, List, [], ◌∷◌, map, Option, Some}
+use Rattle.std.proofs.Common.{None, refl, sym, ap, subst, arith, ◌∙◌}
 use Rattle.std.proofs.Common.{inl, inr, not, nat_eq}
 use Rattle.std.proofs.lemmas.Bool.{and_parts}
 use Rattle.std.proofs.lemmas.List.Sums.{sum_by-cons}
@@ -19,10 +19,11 @@ use Rattle.moment_laws.specs.Granting.{Took, page_run}
 use Rattle.moment_laws.proofs.ChangeLemmas.{slot_cases, sound-grown}
 use Rattle.moment_laws.proofs.EndLemmas.{sound-undone_one, sound-held_more}
 use Rattle.moment_laws.proofs.GrantLemmas.{node_pages-takes, free_of-spaces, took-free, Takes}
-use Rattle.moment_model.specs.Edit.{with_working, empty_tree, undone}
+use Rattle.moment_model.specs.Edit.{with_working, accepts, empty_tree, undone}
 use Rattle.moment_model.specs.Moment.{IsSound, ObjectSlot, Moment, object_slot, with_object_slot}
 use Rattle.moment_model.specs.Moment.{free_of, is_free, working_uses, count_true}
-use Rattle.moment_model.specs.Version.{Version, IsGoodVersion, covers}
+use Rattle.moment_model.specs.Version.{Version, IsGoodVersion, covers, version_bytes}
+use Rattle.object_body.specs.Calls.{RefusesTaken, pages_in}
 use Rattle.object_body.specs.Form.{HaveLengths, HaveLengthsBy, any_tree}
 use Rattle.soundness_laws.specs.Keeping.{KeepsSoundness}
 use Rattle.body_double.specs.Kept.{lays_kept, kept_created}
@@ -32,6 +33,54 @@ use Rattle.body_double.specs.Page.{page_created, page_moved, page_dropped}
 -- the slot has the lengths of the bytes: that is all that these objects say of the two
 pub lengths-told : IsTrue true → HaveLengthsBy HaveLengths
 lengths-told on told suits = suits
+
+-- ---- what is refused pages
+
+-- no edit of an object that is made of the pages of a tree is
+pub refuses-no-kept : RefusesTaken lays_kept
+refuses-no-kept n start free slot edit pages = go edit
+  where
+    created : (version : Version) → pages_in (kept_created free slot version) ≡ Some pages → ⊥
+    created None refused = cc
+    created (Some tree) refused = cc
+
+    go : (edit : Edit) → pages_in (lays_kept n start free slot edit) ≡ Some pages →
+        accepts (version_bytes slot.working) edit ≡ true
+    go (Create t) refused = absurd (created slot.working refused)
+    go Destroy refused = absurd cc
+    go (Append p) refused = absurd cc
+    go (Insert at p) refused = absurd cc
+    go (Delete at k) refused = absurd cc
+    go (Replace at p) refused = absurd cc
+
+-- of an object on a page, a `create` where it is absent, and an `append` where it isn't
+pub refuses-page : RefusesTaken lays_page
+refuses-page n start free slot edit pages = go edit
+  where
+    created : (t : Option ℕ) (version : Version) →
+        pages_in (page_created n start free slot version) ≡ Some pages →
+        accepts (version_bytes version) (Create t) ≡ true
+    created t None refused = refl
+    created t (Some tree) refused = absurd cc
+
+    moved : (p : List ℕ) (version : Version) →
+        pages_in (page_moved n start free slot version) ≡ Some pages →
+        accepts (version_bytes version) (Append p) ≡ true
+    moved p None refused = absurd cc
+    moved p (Some tree) refused = refl
+
+    dropped : (version : Version) → pages_in (page_dropped free slot version) ≡ Some pages → ⊥
+    dropped None refused = cc
+    dropped (Some tree) refused = cc
+
+    go : (edit : Edit) → pages_in (lays_page n start free slot edit) ≡ Some pages →
+        accepts (version_bytes slot.working) edit ≡ true
+    go (Create t) refused = created t slot.working refused
+    go Destroy refused = absurd (dropped slot.working refused)
+    go (Append p) refused = moved p slot.working refused
+    go (Insert at p) refused = absurd cc
+    go (Delete at k) refused = absurd cc
+    go (Replace at p) refused = absurd cc
 
 -- ---- what an edit leaves of a sound moment
 

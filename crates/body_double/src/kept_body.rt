@@ -4,7 +4,7 @@ ghost use Rattle.std.specs.Prelude.{◌≡◌, ◌||◌, true, is_some};
 ghost use Rattle.object_body.specs.Form.{HaveLengths, any_tree};
 ghost use Rattle.body_double.specs.Kept.{KeepsTree, kept_form, kept_contents, lays_kept, fits_all};
 ghost use Rattle.body_double.specs.Kept.{working_entry};
-ghost use Rattle.body_double.specs.Laws.{keeps-kept, lengths-told};
+ghost use Rattle.body_double.specs.Laws.{keeps-kept, refuses-no-kept, lengths-told};
 
 use crate::creates::creates;
 use eos_ops::{Bytes, Edit, Outcome};
@@ -156,6 +156,8 @@ impl<P: Port> Body for KeptBody<P> {
     }
 
     ghost keeps_soundness = { keeps-kept };
+
+    ghost refuses_taken = { refuses-no-kept };
 
     ghost lengths = { lengths-told };
 }

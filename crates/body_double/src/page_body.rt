@@ -8,7 +8,7 @@ ghost use Rattle.object_body.specs.Calls.{Stage, IsEdit};
 ghost use Rattle.object_body.specs.Places.{IsReady};
 ghost use Rattle.object_body.specs.Form.{HaveLengths};
 ghost use Rattle.object_body.specs.Memory.{EditMayTakeMemory};
-ghost use Rattle.body_double.specs.Laws.{keeps-page, lengths-told};
+ghost use Rattle.body_double.specs.Laws.{keeps-page, refuses-page, lengths-told};
 ghost use Rattle.body_double.specs.Page.{page_form, page_contents, working_page, lays_page, Places};
 ghost use Rattle.body_double.specs.Page.{IsPageTree, is_create, plain_if};
 
@@ -187,6 +187,8 @@ impl<P: Port> Body for PageBody<P> {
     }
 
     ghost keeps_soundness = { keeps-page };
+
+    ghost refuses_taken = { refuses-page };
 
     ghost lengths = { lengths-told };
 }

@@ -4,7 +4,7 @@ ghost use Rattle.std.specs.Prelude.{◌≡◌, ◌<◌, ◌-◌, ◌%◌, Err, O
 ghost use Rattle.std.specs.Prelude.{false};
 ghost use Rattle.eos_ops.specs.Edits.{outcome_in};
 ghost use Rattle.eos_ops.specs.Objects.{reply_of};
-ghost use Rattle.object_body.specs.Form.{NamesThreshold};
+ghost use Rattle.object_body.specs.Form.{AreTied, NamesThreshold};
 ghost use Rattle.object_body.specs.Memory.{EditMayTakeMemory};
 ghost use Rattle.object_body.specs.Places.{IsReady};
 ghost use Rattle.shadow_txn.specs.Acts.{edit_command, noted};
@@ -72,6 +72,8 @@ impl<B: Body, H: Annals> Txn<B, H> {
             (noted H.tells (edit_command o edit.now) (edit_reply result)) self.old self.new) }
         ensures right { IsTrue B.P.S.tells → IsOwnRight (edit_reply result)
             (reply_of (outcome_in edit.now (working_at (at_body B.told) o self.old.held))) }
+        ensures tied { IsTrue B.P.S.tells → IfSome (held_object o self.old.held)
+            (λ x. AreTied B.suits (B.form x.body) (B.told x.body)) }
 
         // Where no act is kept, memory is wanted only by an edit that may take some.
         ensures memory { H.tells ≡ false → result ≡ Err TxnFail.Memory

@@ -3,6 +3,7 @@
 ghost use Rattle.std.specs.Prelude.{◌≡◌, Err, IsSome, IsTrue, IfSome};
 ghost use Rattle.eos_ops.specs.declared.command.Command.TheVariants as command;
 ghost use Rattle.eos_ops.specs.Objects.{length_in};
+ghost use Rattle.object_body.specs.Form.{AreTied};
 ghost use Rattle.shadow_txn.specs.Acts.{noted};
 ghost use Rattle.shadow_txn.specs.Held.{held_object, done_to};
 ghost use Rattle.shadow_txn.specs.Replies.{length_reply};
@@ -32,6 +33,8 @@ impl<B: Body, H: Annals> Txn<B, H> {
         ensures right { IsTrue B.P.S.tells
             → IsOwnRight (length_reply result)
             (length_in (working_at (at_body B.told) o self.old.held)) }
+        ensures tied { IsTrue B.P.S.tells → IfSome (held_object o self.old.held)
+            (λ x. AreTied B.suits (B.form x.body) (B.told x.body)) }
         ensures same { self.new ≡ noting o (noted H.tells (command.Length o) (length_reply result))
             self.old }
         ensures goes_on { GoesOn (at_annals H.told) (at_annals H.last) (frame_by B.form)

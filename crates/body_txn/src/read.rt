@@ -3,6 +3,7 @@
 ghost use Rattle.std.specs.Prelude.{◌≡◌, ◌<◌, false, Err, IsSome, IsTrue, IfSome};
 ghost use Rattle.eos_ops.specs.declared.command.Command.TheVariants as command;
 ghost use Rattle.eos_ops.specs.Objects.{read_in};
+ghost use Rattle.object_body.specs.Form.{AreTied};
 ghost use Rattle.shadow_txn.specs.Acts.{noted};
 ghost use Rattle.shadow_txn.specs.Held.{held_object};
 ghost use Rattle.shadow_txn.specs.Replies.{bytes_reply};
@@ -40,6 +41,8 @@ impl<B: Body, H: Annals> Txn<B, H> {
         ensures right { IsTrue B.P.S.tells
             → IsOwnRight (bytes_reply result)
             (read_in at len (working_at (at_body B.told) o self.old.held)) }
+        ensures tied { IsTrue B.P.S.tells → IfSome (held_object o self.old.held)
+            (λ x. AreTied B.suits (B.form x.body) (B.told x.body)) }
 
         // Where no act is kept, a read of no byte wants no memory.
         ensures memory { H.tells ≡ false → result ≡ Err TxnFail.Memory → 0 < len }

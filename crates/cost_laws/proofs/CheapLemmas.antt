@@ -17,6 +17,7 @@ use Rattle.layout_model.specs.Pack.{pack}
 use Rattle.layout_model.specs.Parts.{parts_of}
 use Rattle.layout_model.specs.Plan.{Plan, extent_pages, fit_appended, made_part_bytes, plan_extended, planned}
 use Rattle.layout_laws.specs.Halving.{runs_pages}
+use Rattle.layout_laws.proofs.HalvingLemmas.{runs_pages-append}
 use Rattle.moment_model.specs.Version.{IsGood}
 use Rattle.moment_laws.specs.Granting.{page_run, runs_of_parts}
 use Rattle.change_laws.specs.Laying.{IsChange}
@@ -30,7 +31,7 @@ use Rattle.change_laws.proofs.PlannedLemmas.{follow-entries, fresh-entries, fres
 use Rattle.cost_laws.specs.ChangeCost.{added_pieces, brought_pages, IsCheap}
 use Rattle.cost_laws.proofs.NodeCostLemmas.{spliced-few}
 use Rattle.cost_laws.proofs.PartCostLemmas.{plan-small}
-use Rattle.cost_laws.proofs.RunCostLemmas.{added, all-shared, laid-few, pages-append, pages-single}
+use Rattle.cost_laws.proofs.RunCostLemmas.{added, all-shared, laid-few, pages-single}
 
 -- ---- by how a plan meets the spare
 
@@ -176,7 +177,7 @@ change-cheap n tree spare change grants range good tail is suits =
     let entries = small.entries in
     let few = small.few in
     let runs = small.granted in
-    let all = pages-append (runs_of_parts grants.runs) (map page_run grants.pages) in
+    let all = runs_pages-append (runs_of_parts grants.runs) (map page_run grants.pages) in
     let single = pages-single grants.pages in
     record {
       added = le-div (added_pieces grants) (page_count n.page change.added + 4 * tree.threshold + 4) tree.threshold (omega (arith, low))

@@ -1,10 +1,12 @@
--- How many nodes a change makes: at most eight on each level, and one for each entry that it brings.
+-- How many nodes a change makes: at most eight for each level before it, eight more, and one for each entry
+-- that it brings. On a level at most four nodes are made, and one for every second pair that comes up to it; on
+-- one that is raised above the old ones no more than that second half.
 use Rattle.std.proofs.Common.{◌≡◌, ℕ, zero, suc, ◌+◌, ◌-◌, ◌*◌, ◌/◌, ◌<◌, ◌≤◌, Bool, true, false, cond, List, [], ◌∷◌, ◌++◌}
-use Rattle.std.proofs.Common.{length, map, take, drop, sym, ap, subst, arith, ◌∙◌, inl, inr, length-append, length-take}
+use Rattle.std.proofs.Common.{length, map, take, drop, refl, sym, ap, subst, arith, ◌∙◌, inl, inr, length-append, length-take}
 use Rattle.std.proofs.Common.{length-drop, nat_eq}
 use Rattle.std.specs.Prelude.{nat_lt}
 use Rattle.std.specs.List.{AllByRecursion}
-use Rattle.std.proofs.lemmas.Bool.{cases_Bool, cases_lt, eqb-true, eqb-false, ltb-true, ltb-false}
+use Rattle.std.proofs.lemmas.Bool.{cases_Bool, cases_lt, eqb-true, eqb-false, leb-false, ltb-true, ltb-false}
 use Rattle.std.proofs.lemmas.List.{length-map}
 use Rattle.std.proofs.lemmas.Nat.{mul-le}
 use Rattle.std.proofs.Math.Nat.{add-mul}
@@ -12,15 +14,14 @@ use Rattle.tree_model.specs.declared.entry.Pair.{Pair}
 use Rattle.tree_model.proofs.PageCountLaws.{count-enough}
 use Rattle.layout_model.specs.Levels.{PageNode, NewLevel, Site, pair_of, pairs_of_level, entries_of_levels, node_at, touched_site}
 use Rattle.layout_model.specs.Levels.{exchanged, joins, joined, site_of, sizes_of, level_with, level_after}
-use Rattle.layout_model.specs.Levels.{raised_levels, new_levels_from, spliced, is_top, unless_empty, nodes_of_levels, count_made}
-use Rattle.layout_laws.proofs.LevelLemmas.{before-low, count-cons, new_levels_from-head, site_of-holds, through-high}
+use Rattle.layout_model.specs.Levels.{raised_levels, new_levels_from, spliced, is_top, count_made}
+use Rattle.layout_laws.proofs.LevelLemmas.{before-low, count-cons, site_of-holds, through-high}
 use Rattle.layout_laws.proofs.NamingLemmas.{new_levels_from-more, new_levels_from-top, site_of-within}
 use Rattle.moment_model.specs.Version.{AreLevels, Carries, IsFilled, least_on}
 use Rattle.change_laws.proofs.SizeLemmas.{made-length, nodes, sizes-length}
 use Rattle.change_laws.proofs.SiteLemmas.{exchanged-length, first_pairs, node_at-rises, site_of-some}
 use Rattle.change_laws.proofs.ShapeLemmas.{pairs_for_node, raised_levels-more, raised_levels-top}
 use Rattle.change_laws.proofs.NodeCountLemmas.{made-cons}
-use Rattle.change_laws.proofs.UsedNodeLemmas.{empty-alone}
 
 -- ---- the pairs at a site
 
@@ -178,18 +179,36 @@ level-made f least level from count fresh pages four filled within =
     let made : length (level_after f level from count fresh pages).made ≡ nodes f (length pairs) = count_made in
     omega (arith, made, few)
 
+-- a level above made nodes alone makes no more than one for every second of them
+raised-made : (f : ℕ) (fresh : List Pair) (pages : List ℕ) → 4 ≤ f → 2 ≤ length fresh →
+    2 * length (level_after f [] 0 0 fresh pages).made ≤ length fresh
+raised-made f fresh pages four two =
+    let site = site_of f [] 0 0 fresh in
+    let pairs = exchanged [] site 0 0 fresh in
+    let some : 0 < f = omega (arith, four) in
+    let half = length fresh / 2 in
+    let count_made = made-length pages (sizes_of f (length pairs)) pairs ∙ sizes-length f (length pairs) some in
+    let long = exchanged-length [] site 0 0 fresh (site_of-holds f [] 0 0 fresh (omega arith)) in
+    let alone : (k : ℕ) → first_pairs [] k ≡ 0 = none in
+    let before = alone site.before in
+    let behind = alone (site.before + site.nodes) in
+    let rows : half * 4 ≤ half * f = mul-le half 4 half f (omega arith) four in
+    let few = count-enough f (length pairs) half some (omega (arith, long, before, behind, rows, two)) in
+    let made : length (level_after f [] 0 0 fresh pages).made ≡ nodes f (length pairs) = count_made in
+    omega (arith, made, few)
+  where
+    none : (k : ℕ) → first_pairs [] k ≡ 0
+    none zero = refl
+    none (suc k) = refl
+
 -- ---- all levels
 
--- what levels make, the pairs that come to the lowest of them being counted by its made nodes
-abbrev AreFew : NewLevel → List NewLevel → Type 0
-AreFew below levels = count_made levels + 8 ≤ 2 * length below.made + 8 * length levels
+-- levels make few nodes, by those that the lowest of them makes and the old levels above it
+abbrev AreFew : NewLevel → ℕ → List NewLevel → Type 0
+AreFew below old levels = count_made levels ≤ 2 * length below.made + 8 * old
 
-alone-few : (below : NewLevel) → AreFew below (below ∷ [])
-alone-few below = let all = made-cons below [] in omega (arith, all)
-
-next-few : (below next : NewLevel) (levels : List NewLevel) → 2 * length next.made ≤ 8 + length below.made → AreFew next levels →
-    AreFew below (below ∷ levels)
-next-few below next levels made few = let all = made-cons below levels in omega (arith, all, made, few)
+alone-few : (below : NewLevel) (old : ℕ) → AreFew below old (below ∷ [])
+alone-few below old = let all = made-cons below [] in omega (arith, all)
 
 -- a level of one node or none is made anew
 whole-made : (level : List PageNode) (site : Site) (made : List PageNode) → length level ≤ 1 → 1 ≤ site.nodes →
@@ -212,27 +231,28 @@ first-made f fresh pages =
     whole-made [] (site_of f [] 0 0 fresh) (level_after f [] 0 0 fresh pages).made (omega arith) (site_of-some f [] 0 0 fresh)
     (λ any. absurd (omega (arith, any)))
 
--- levels that are raised above a level of made nodes alone
+-- levels that are raised above a level of made nodes alone: no more nodes than it has
 raised-few : (steps f : ℕ) (below : NewLevel) (pages : List ℕ) → 4 ≤ f → length below.nodes ≡ length below.made →
-    AreFew below (raised_levels steps f below pages)
-raised-few zero f below pages four same = alone-few below
+    AreFew below 0 (raised_levels steps f below pages)
+raised-few zero f below pages four same = alone-few below 0
 raised-few (suc steps) f below pages four same =
     elim (cases_Bool (is_top below)) [
-      | inl top ↦ subst (AreFew below) (sym (raised_levels-top steps f below pages top)) (alone-few below)
+      | inl top ↦ subst (AreFew below 0) (sym (raised_levels-top steps f below pages top)) (alone-few below 0)
       | inr more ↦
           let left = drop (length below.made) pages in
           let next = level_after f [] 0 0 (map pair_of below.nodes) left in
+          let many = leb-false (length below.nodes) 1 more in
           let names = length-map below.nodes pair_of in
-          let made = level-made f 1 [] 0 0 (map pair_of below.nodes) left four tt (omega arith) in
-          subst (AreFew below) (sym (raised_levels-more steps f below pages more))
-          (next-few below next (raised_levels steps f next left) (omega (arith, made, names, same))
-          (raised-few steps f next left four (first-made f (map pair_of below.nodes) left)))
+          let made = raised-made f (map pair_of below.nodes) left four (omega (arith, many, names)) in
+          let rest = raised-few steps f next left four (first-made f (map pair_of below.nodes) left) in
+          let all = made-cons below (raised_levels steps f next left) in
+          subst (AreFew below 0) (sym (raised_levels-more steps f below pages more)) (omega (arith, made, rest, all, names, same))
     ]
 
 -- the levels from a new one on
 from-few : (f : ℕ) (level : List PageNode) (site : Site) (made : List PageNode) (old : List (List PageNode)) (pages : List ℕ) → 4 ≤ f →
     1 ≤ site.nodes → site.before + site.nodes ≤ length level → Carries f level old →
-    AreFew (level_with level site made) (new_levels_from f (level_with level site made) old pages)
+    AreFew (level_with level site made) (length old) (new_levels_from f (level_with level site made) old pages)
 from-few f level site made [] pages four some within carries =
     let alone : length level ≡ 1 = carries in
     raised-few (length (level_with level site made).nodes) f (level_with level site made) pages four
@@ -240,7 +260,8 @@ from-few f level site made [] pages four some within carries =
 from-few f level site made (up ∷ old) pages four some within carries =
     let below = level_with level site made in
     elim (cases_Bool (is_top below)) [
-      | inl top ↦ subst (AreFew below) (sym (new_levels_from-top f below up old pages top)) (alone-few below)
+      | inl top ↦ subst (AreFew below (suc (length old))) (sym (new_levels_from-top f below up old pages top))
+          (alone-few below (suc (length old)))
       | inr more ↦
           let left = drop (length made) pages in
           let next = level_after f up site.before site.nodes (map pair_of made) left in
@@ -253,48 +274,28 @@ from-few f level site made (up ∷ old) pages four some within carries =
           let rest = from-few f up next_site next.made old left four
           (site_of-some f up site.before site.nodes (map pair_of made))
           (site_of-within f up site.before site.nodes (map pair_of made) (omega (arith, long, two)) inside) carries.3 in
-          subst (AreFew below) (sym (new_levels_from-more f below up old pages more))
-          (next-few below next (new_levels_from f next old left) (omega (arith, new, names)) rest)
+          let all = made-cons below (new_levels_from f next old left) in
+          subst (AreFew below (suc (length old))) (sym (new_levels_from-more f below up old pages more))
+          (omega (arith, new, rest, all, names))
     ]
 
--- new levels are as many as the tree is high, or one where it is empty
-levels-high : (f : ℕ) (first : NewLevel) (old : List (List PageNode)) (pages : List ℕ) →
-    length (new_levels_from f first old pages) ≤ length (nodes_of_levels (new_levels_from f first old pages)) + 1
-levels-high f first old pages =
-    let levels = new_levels_from f first old pages in
-    elim (cases_Bool (nat_eq (length first.nodes) 0)) [
-      | inl none ↦
-          let long = ap length (empty-alone f first old pages (eqb-true (length first.nodes) 0 none)) in
-          omega (arith, long)
-      | inr some ↦
-          let head = new_levels_from-head f first old pages in
-          let whole : unless_empty (first ∷ head.0) ≡ first ∷ head.0 = rw (some, unless_empty) in
-          let same : unless_empty levels ≡ levels = ap unless_empty head.1 ∙ (whole ∙ sym head.1) in
-          let named = length-map (unless_empty levels) (λ (level : NewLevel). level.nodes) in
-          let long = ap length same in
-          omega (arith, named, long)
-    ]
-
--- the nodes that a change makes
+-- the nodes that a change makes, by the height before it
 pub spliced-few : (f : ℕ) (levels : List (List PageNode)) (from count : ℕ) (fresh : List Pair) (pages : List ℕ) → 4 ≤ f →
     AreLevels f levels → from + count ≤ length (entries_of_levels levels) →
-    count_made (spliced f levels from count fresh pages)
-    ≤ 8 * (length (nodes_of_levels (spliced f levels from count fresh pages)) + 1) + length fresh
+    count_made (spliced f levels from count fresh pages) ≤ 8 * (length levels + 1) + length fresh
 unfolding spliced
 spliced-few f [] from count fresh pages four are within =
     let first = level_after f [] 0 0 fresh pages in
     let made = level-made f 1 [] 0 0 fresh pages four tt (omega arith) in
     let few = raised-few (length first.nodes) f first pages four (first-made f fresh pages) in
-    let high = levels-high f first [] pages in
-    omega (arith, made, few, high)
+    omega (arith, made, few)
 spliced-few f (level ∷ old) from count fresh pages four are within =
     let first = level_after f level from count fresh pages in
     let made = level-made f (least_on f 1 level) level from count fresh pages four are.0 within in
     let pair = pairs_for_node f level four are.0 (carried-some f level old are.1) in
     let few = from-few f level (site_of f level from count fresh) first.made old pages four
     (site_of-some f level from count fresh) (site_of-within f level from count fresh pair within) are.1 in
-    let high = levels-high f first old pages in
-    omega (arith, made, few, high)
+    omega (arith, made, few)
   where
     carried-some : (f : ℕ) (level : List PageNode) (old : List (List PageNode)) → Carries f level old → 0 < length level
     carried-some f level [] one = omega (arith, one)

@@ -12,6 +12,7 @@ use Rattle.layout_model.specs.declared.part.Part.TheVariants.{Keep, Make}
 use Rattle.layout_model.specs.Layout.{segments_on, laid_parts, left_over, spare_behind}
 use Rattle.layout_model.specs.Plan.{extent, extent_pages}
 use Rattle.layout_laws.specs.Halving.{runs_pages, AreLong}
+use Rattle.layout_laws.proofs.HalvingLemmas.{runs_pages-append}
 use Rattle.moment_laws.specs.Granting.{page_run, runs_of_parts}
 use Rattle.change_laws.specs.Suiting.{HoldsPart, AllHold, AllExact}
 
@@ -21,17 +22,13 @@ added runs = length runs - 1
 
 -- ---- lists of runs
 
-pub pages-append : (xs ys : List Extent) → runs_pages (xs ++ ys) ≡ runs_pages xs + runs_pages ys
-pages-append [] ys = omega arith
-pages-append (x ∷ xs) ys = let more = pages-append xs ys in omega (arith, more)
-
 pub pages-single : (pages : List ℕ) → runs_pages (map page_run pages) ≡ length pages
 pages-single [] = refl
 pages-single (page ∷ pages) = let more = pages-single pages in omega (arith, more)
 
 pub pages-of_parts : (run : List Extent) (runs : List (List Extent)) →
     runs_pages (runs_of_parts (run ∷ runs)) ≡ runs_pages run + runs_pages (runs_of_parts runs)
-pages-of_parts run runs = pages-append run (runs_of_parts runs)
+pages-of_parts run runs = runs_pages-append run (runs_of_parts runs)
 
 -- ---- entries on runs
 

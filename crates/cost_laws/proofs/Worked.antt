@@ -57,8 +57,7 @@ halves-written : written_pages small two_pages None (append 1280) halves ≡ 6
 unfolding planned
 halves-written = refl
 
-halves-cost : change_cost small two_pages None (append 1280) halves ≡ 35
-unfolding laid planned spliced
+halves-cost : change_cost small two_pages (append 1280) halves ≡ 35
 halves-cost = refl
 
 -- ---- a wish for twice the last segment: four pages are granted and one is needed, so three are the spare
@@ -80,8 +79,7 @@ wish-pages : runs_pages (granted_runs with_wish) ≡ 2 + extent_pages (laid smal
 unfolding laid planned spliced
 wish-pages = refl
 
-wish-cost : change_cost small two_pages None (append 256) with_wish ≡ 30
-unfolding laid planned spliced
+wish-cost : change_cost small two_pages (append 256) with_wish ≡ 30
 wish-cost = refl
 
 -- ---- rows of bytes that meet as many segments as the bound allows

@@ -1,5 +1,5 @@
 -- The pages that a change writes and is granted, and the bound on them.
-use Rattle.std.specs.Prelude.{ℕ, ◌+◌, ◌-◌, ◌≤◌, max, Option, length, sum_by}
+use Rattle.std.specs.Prelude.{ℕ, ◌+◌, ◌-◌, ◌≤◌, Option, length, sum_by}
 use Rattle.geometry_model.specs.Numbers.{Numbers}
 use Rattle.tree_model.specs.Tree.{page_count}
 use Rattle.layout_model.specs.declared.change.Change.{Change}
@@ -29,18 +29,16 @@ written_pages n tree spare change grants =
 abbrev pub added_pieces : Grants → ℕ
 added_pieces grants = sum_by (λ runs. length runs - 1) grants.runs
 
--- the most pages that the change writes, with the pieces that halving added to it
-abbrev pub change_cost : Numbers → Tree → Option Extent → Change → Grants → ℕ
-change_cost n tree spare change grants =
-    let after = laid n tree spare change grants in
-    cost n change.added (max (length tree.levels) (length after.tree.levels)) tree.threshold
-    (added_pieces grants)
+-- the most pages that the change writes, by the height before it, with the pieces that halving added
+abbrev pub change_cost : Numbers → Tree → Change → Grants → ℕ
+change_cost n tree change grants =
+    cost n change.added (length tree.levels) tree.threshold (added_pieces grants)
 
 -- A change adds few pieces, writes no more pages than its cost, and is granted no more than those
 -- and its spare.
 pub record IsCheap (n : Numbers) (tree : Tree) (spare : Option Extent) (change : Change)
     (grants : Grants) : Type 0 where
   pub added : added_pieces grants ≤ added_most n change.added tree.threshold
-  pub written : written_pages n tree spare change grants ≤ change_cost n tree spare change grants
-  pub granted : runs_pages (granted_runs grants) ≤ change_cost n tree spare change grants
+  pub written : written_pages n tree spare change grants ≤ change_cost n tree change grants
+  pub granted : runs_pages (granted_runs grants) ≤ change_cost n tree change grants
       + extent_pages (laid n tree spare change grants).spare

@@ -12,8 +12,11 @@ ghost use Rattle.change_laws.specs.Tail.{IsTail};
 ghost use Rattle.cost_laws.specs.ChangeCost.{IsCheap};
 
 /// A change of a good tree on pages that suit it, whoever granted them, writes pages by the
-/// payload, the threshold and the height, and not by the object: at most its cost. It is granted at
-/// most as many pages, and the spare that it leaves.
+/// payload, the threshold and the height of the tree before it, and not by the object: at most its
+/// cost. It is granted at most as many pages, and the spare that it leaves.
+///
+/// So a change that fails while it writes has written no more than the tree that stays allows,
+/// however high the new one would have been.
 pub fn a_change_is_cheap()
     ensures { (n : Numbers) (tree : Tree) (spare : Option Extent) (change : Change)
         (grants : Grants) →

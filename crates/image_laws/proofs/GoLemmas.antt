@@ -58,7 +58,7 @@ each-some (p ∷ ps) each =
 all-four : (a b c d e : Bool) → a ≡ true → b ≡ true → c ≡ true → d ≡ true → e ≡ true → (a && (b && (c && (d && e)))) ≡ true
 all-four a b c d e fa fb fc fd fe = cc
 
-node-test : (size : ℕ) (page : List ℕ) → length page ≡ size → HoldsNode page → holds_node size page ≡ true
+pub node-test : (size : ℕ) (page : List ℕ) → length page ≡ size → HoldsNode page → holds_node size page ≡ true
 unfolding holds_node
 node-test size page long holds =
     let level = (node_in page).level in

@@ -33,7 +33,7 @@ alone_cases n start pages spaces =
       | inr some ↦ inl (data_page n some.0.space some.0.at, without spaces some.0 pages, rw (some.1, run_of))
     ]
 
-runs_pages-append : (xs ys : List Extent) → runs_pages (xs ++ ys) ≡ runs_pages xs + runs_pages ys
+pub runs_pages-append : (xs ys : List Extent) → runs_pages (xs ++ ys) ≡ runs_pages xs + runs_pages ys
 runs_pages-append [] ys = omega arith
 runs_pages-append (x ∷ xs) ys = omega (arith, runs_pages-append xs ys)
 

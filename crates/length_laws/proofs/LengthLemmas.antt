@@ -83,7 +83,7 @@ all-there size [] = tt
 all-there size (p ∷ ps) = (λ k within. length-replicate size 0, all-there size ps)
 
 -- the parts of a merged plan have the bytes of the object, but for those that go, and those that come
-merged-bytes : (n : Numbers) (least spare : ℕ) (entries : List Pair) (change : Change) → 0 < n.page →
+pub merged-bytes : (n : Numbers) (least spare : ℕ) (entries : List Pair) (change : Change) → 0 < n.page →
     HaveBytes entries → change.at + change.removed ≤ bytes_of entries →
     parts_bytes (all_parts entries (merged_plan n least entries spare change)) + change.removed ≡ bytes_of entries + change.added
 merged-bytes n least spare entries change some have within =

@@ -230,7 +230,7 @@ whole-run cut all =
     ap (λ (xs : List PageNode). xs ++ (cut.run ++ cut.back)) (empty-list cut.front all.0)
     ∙ (ap (λ (xs : List PageNode). cut.run ++ xs) (empty-list cut.back all.1) ∙ append-nil cut.run)
 
-widened-all : (cut : Cut) (new : NewLevel) → NothingBeside cut → widened cut new ≡ new
+pub widened-all : (cut : Cut) (new : NewLevel) → NothingBeside cut → widened cut new ≡ new
 widened-all cut new all =
     let front = empty-list cut.front all.0 in
     let back = empty-list cut.back all.1 in

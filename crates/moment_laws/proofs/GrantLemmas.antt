@@ -413,7 +413,7 @@ granted-took n start tree spare change free left grants are same =
 -- ---- the free pages of a moment
 
 -- a list of tests has the test of each place
-tests_in-page : (n : Numbers) (s : ℕ) (test : ℕ → Bool) (at : ℕ) → at < space_pages n →
+pub tests_in-page : (n : Numbers) (s : ℕ) (test : ℕ → Bool) (at : ℕ) → at < space_pages n →
     has_page (tests_in n s test) at ≡ test (data_page n s at)
 tests_in-page n s test at within =
     let long : at < length (range_with_len 0 (space_pages n)) = omega (arith, length-range_with_len 0 (space_pages n), within) in
@@ -421,7 +421,7 @@ tests_in-page n s test at within =
     ∙ ap (λ (k : ℕ). test (data_page n s k)) (get_or-range_with_len 0 (space_pages n) at 0 within ∙ omega arith)
 
 -- the tests of all spaces
-tests-space : (n : Numbers) (tests : ℕ → List Bool) (s : ℕ) → s < n.spaces → space_at (map tests (range_with_len 0 n.spaces)) s ≡ tests s
+pub tests-space : (n : Numbers) (tests : ℕ → List Bool) (s : ℕ) → s < n.spaces → space_at (map tests (range_with_len 0 n.spaces)) s ≡ tests s
 tests-space n tests s within =
     let long : s < length (range_with_len 0 n.spaces) = omega (arith, length-range_with_len 0 n.spaces, within) in
     get_or-map tests (range_with_len 0 n.spaces) s 0 [] long ∙ ap tests (get_or-range_with_len 0 n.spaces s 0 within ∙ omega arith)

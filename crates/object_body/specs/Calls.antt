@@ -1,7 +1,7 @@
 -- What the calls of a body do, each as one record over what the body, its port and the spaces
 -- show before and after.
-use Rattle.std.specs.Prelude.{◌≡◌, ℕ, ◌+◌, ◌<◌, ◌≤◌, Bool, IsTrue, List, length, Option, Some}
-use Rattle.std.specs.Prelude.{None, Result, Ok, Err, IfOk, OnOk}
+use Rattle.std.specs.Prelude.{◌≡◌, ℕ, ◌+◌, ◌<◌, ◌≤◌, Bool, true, IsTrue, List, length}
+use Rattle.std.specs.Prelude.{Option, Some, None, Result, Ok, Err, IfOk, OnOk}
 use Rattle.eos_ops.specs.declared.edit.Edit.{Edit}
 use Rattle.eos_ops.specs.declared.outcome.Outcome.{Outcome}
 use Rattle.eos_ops.specs.declared.outcome.Outcome.TheVariants.{Done}
@@ -12,9 +12,10 @@ use Rattle.fault_count.specs.Counts.{HasCause, IsUsed, Meter}
 use Rattle.geometry_model.specs.Numbers.{Numbers}
 use Rattle.block_model.specs.Place.{least_order}
 use Rattle.layout_model.specs.Grants.{Spaces, Answer, Got, Refused}
-use Rattle.moment_model.specs.Edit.{edited_length}
+use Rattle.moment_model.specs.Edit.{accepts, edited_length}
 use Rattle.moment_model.specs.Moment.{ObjectSlot}
 use Rattle.moment_model.specs.Run.{Lays}
+use Rattle.moment_model.specs.Version.{version_bytes}
 use Rattle.space_directory.specs.SpaceView.{SpaceView}
 use Rattle.superdirectory.specs.Grants.{AreTold, free_sets, KeepsFrame}
 use Rattle.superdirectory.specs.Rest.{Frame, Rest, count}
@@ -44,6 +45,12 @@ slot_in (Refused pages) = None
 abbrev pub pages_in : Answer ObjectSlot → Option ℕ
 pages_in (Got slot left) = None
 pages_in (Refused pages) = Some pages
+
+-- an edit that is refused pages is one that the object takes, by the length of its slot
+abbrev pub RefusesTaken : Lays → Type 0
+RefusesTaken laid = (n : Numbers) (start : ℕ) (free : Spaces) (slot : ObjectSlot) (edit : Edit)
+    (pages : ℕ) → pages_in (laid n start free slot edit) ≡ Some pages →
+    accepts (version_bytes slot.working) edit ≡ true
 
 -- An edit that was made is the one that the kind of object lays out; one that found no space is
 -- refused these pages there. Want of memory and a fault may come in place of either.

@@ -86,12 +86,14 @@ pub record IsLoaded (tells : Bool) (n : Numbers) (entry : Entry) (held : Held) (
   pub bytes : IsTrue tells → told.working ≡ plain_at (bytes_on held) n.page entry
 
 -- What an object keeps of its pages: data pages of the store's size; where they are told they are
--- just those that its slot uses, and show the working version and its bytes.
+-- just those that its slot uses, the tree of the working version stands on them, and they show that
+-- version and its bytes.
 pub record IsKeeping (tells : Bool) (form : Form) (told : Contents) (entry : Entry)
     (held : Held) : Type 0 where
   pub on_data : (page : ℕ) → IsTrue (has held page) → IsTrue (is_data_page form.numbers page)
   pub sized : AllSized tells form.numbers.page held
   pub just : IsTrue tells → (page : ℕ) →
       has held page ≡ nat_lt 0 (either_uses form.numbers page told.slot)
+  pub tree : IsTrue tells → StandsOn form.numbers (bytes_on held) entry
   pub version : IsTrue tells → told.slot.working ≡ version_at (bytes_on held) entry
   pub bytes : IsTrue tells → told.working ≡ plain_at (bytes_on held) form.numbers.page entry

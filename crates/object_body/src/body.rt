@@ -10,6 +10,7 @@ ghost use Rattle.moment_model.specs.Run.{Lays};
 ghost use Rattle.soundness_laws.specs.Keeping.{KeepsSoundness};
 ghost use Rattle.superdirectory.specs.Rest.{count};
 ghost use Rattle.object_body.specs.Calls.{Stage, IsEdit, IsBodyEnd, IsBodyRead, IsWithin};
+ghost use Rattle.object_body.specs.Calls.{RefusesTaken};
 ghost use Rattle.object_body.specs.Form.{Form, Contents, AreTied, NamesThreshold, settled_form};
 ghost use Rattle.object_body.specs.Form.{settled_contents, undone_form, undone_contents};
 ghost use Rattle.object_body.specs.Form.{HaveLengthsBy};
@@ -151,6 +152,9 @@ pub trait Body: Drop {
 
     // An edit that was granted what it asks for leaves a sound moment sound.
     ghost keeps_soundness: { KeepsSoundness laid good };
+
+    // Pages are refused only to an edit that the object takes.
+    ghost refuses_taken: { RefusesTaken laid };
 
     // Where the slot stands for pages, both its versions have the lengths of the bytes.
     ghost lengths: { IsTrue on_pages → HaveLengthsBy suits };

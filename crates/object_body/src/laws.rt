@@ -13,6 +13,7 @@ ghost use Rattle.moment_model.specs.Version.{version_bytes, version_uses};
 ghost use Rattle.soundness_laws.specs.Keeping.{KeepsSoundness};
 ghost use Rattle.space_directory.specs.SpaceView.{SpaceView};
 ghost use Rattle.superdirectory.specs.Rest.{Frame, Rest};
+ghost use Rattle.object_body.specs.Calls.{RefusesTaken};
 ghost use Rattle.object_body.specs.Form.{Form, Contents, AreTied};
 ghost use Rattle.object_body.specs.Lengths.{length_of, outcome_of};
 ghost use Rattle.moment_model.specs.Edit.{edited_length};
@@ -59,6 +60,11 @@ pub fn a_version_uses_a_page_once<K: Kind>()
 /// behind its object's last segment.
 pub fn a_body_keeps_a_store_sound<B: Body>()
     ensures { KeepsSoundness B.laid B.good }
+{}
+
+/// A body refuses pages only to an edit that its object takes, by the length of its slot.
+pub fn a_body_refuses_pages_for_what_it_takes<B: Body>()
+    ensures { RefusesTaken B.laid }
 {}
 
 /// Where the slot of a body stands for pages, its versions are as long as the body says.

@@ -87,6 +87,7 @@ pub trait Bay {
     fn absorb(&mut self, port: Self::P)
         ensures faults { counted (device self.old).faults (Self.P.meter port).faults
             ≤ (device self.new).faults }
+        ensures kept { (device self.old).faults ≤ (device self.new).faults }
         ensures none { (Self.P.meter port).faults ≡ 0 →
             (device self.new).faults ≡ (device self.old).faults }
         ensures stays { device self.new ≡ with_faults (device self.old) (device self.new).faults };

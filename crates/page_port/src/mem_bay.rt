@@ -282,6 +282,7 @@ impl Bay for MemBay {
 
     fn absorb(&mut self, port: MemPort)
         ensures faults { self.new.device.faults ≡ counted self.old.device.faults port.meter.faults }
+        ensures kept { self.old.device.faults ≤ self.new.device.faults }
         ensures none { port.meter.faults ≡ 0 → self.new.device.faults ≡ self.old.device.faults }
         ensures stays { self.new ≡ record self.old {
           device = with_faults self.old.device self.new.device.faults;

@@ -6,7 +6,7 @@ ghost use Rattle.object_body.specs.Form.{any_tree};
 ghost use Rattle.object_body.specs.Memory.{EditMayTakeMemory};
 ghost use Rattle.plain_body.specs.Kind.{plain_form, plain_contents, working_plain, HasNoPage};
 ghost use Rattle.plain_body.specs.Kind.{lays_nothing};
-ghost use Rattle.plain_body.specs.Laws.{keeps-nothing, no-lengths};
+ghost use Rattle.plain_body.specs.Laws.{keeps-nothing, refuses-nothing, no-lengths};
 
 use crate::copy::edited_copy;
 use eos_ops::{Bytes, Edit, Outcome, Plain, apply_plain};
@@ -118,6 +118,8 @@ impl<P: Port> Body for PlainBody<P> {
     }
 
     ghost keeps_soundness = { keeps-nothing };
+
+    ghost refuses_taken = { refuses-nothing };
 
     ghost lengths = { no-lengths };
 }

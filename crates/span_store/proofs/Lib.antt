@@ -13,3 +13,4 @@ pub mod Kept
 pub mod Borders
 pub mod Ends
 pub mod Turns
+pub mod Nexts

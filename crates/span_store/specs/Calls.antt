@@ -29,6 +29,21 @@ pub record IsRemoved (s : HeldSpan) (old new : Held) : Type 0 where
   pub count : length new.spans + 1 ≡ length old.spans
   pub room : old.room ≤ new.room + 1
 
+-- the span is held whole: from where it begins up to where the next one begins or no page is held
+pub record IsSpanOf (s : HeldSpan) (all : Held) : Type 0 where
+  pub some : 1 ≤ length s.pages
+  pub begun : begins all s.first ≡ true
+  pub held : (q : ℕ) → IsTrue (is_some (page_of s q)) → page_at all q ≡ page_of s q
+  pub inner : (q : ℕ) → s.first < q → q < s.first + length s.pages → begins all q ≡ false
+  pub end : IsTrue (has all (s.first + length s.pages)) →
+      begins all (s.first + length s.pages) ≡ true
+
+-- the span is the first that begins at the page or behind it
+pub record IsSpanFrom (page : ℕ) (s : HeldSpan) (held : Held) : Type 0 where
+  pub whole : IsSpanOf s held
+  pub from : page ≤ s.first
+  pub none : (q : ℕ) → page ≤ q → q < s.first → begins held q ≡ false
+
 -- a span begins at this page, and the pages are held as before
 pub record IsCutAt (page : ℕ) (old new : Held) : Type 0 where
   pub pages : KeepsPages old new

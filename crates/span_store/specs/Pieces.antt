@@ -47,6 +47,18 @@ pub record IsLastBegun (pieces : List (List HeldSpan)) (page i j : ℕ) : Type 0
   pub at : IsAt pieces i j
   pub rank : IsRank (spans_in pieces) page (rank_of pieces i j + 1)
 
+-- just the first k spans begin before the page
+pub record IsCountBefore (spans : List HeldSpan) (page k : ℕ) : Type 0 where
+  pub within : k ≤ length spans
+  pub before : 0 < k → first_at spans (k - 1) < page
+  pub behind : k < length spans → page ≤ first_at spans k
+
+-- the span at j of the piece at i is the first that begins at the page or behind it; where there
+-- is no such piece none does
+pub record IsFirstFrom (pieces : List (List HeldSpan)) (page i j : ℕ) : Type 0 where
+  pub at : IsAtOrEnd pieces i j
+  pub count : IsCountBefore (spans_in pieces) page (rank_of pieces i j)
+
 -- the span at j of the piece at i stands before the one at l of the piece at k
 pub record IsBefore (pieces : List (List HeldSpan)) (i j k l : ℕ) : Type 0 where
   pub at : IsAt pieces i j

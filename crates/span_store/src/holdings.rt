@@ -8,11 +8,12 @@ ghost use Rattle.page_port.specs.Pages.{IsSized, IsWhole};
 ghost use Rattle.span_store.specs.Held.{AllSized, HoldsRun, IsEmpty, IsEnd, LacksRun, begins};
 ghost use Rattle.span_store.specs.Held.{bytes_on, has, is_border, span_of};
 ghost use Rattle.span_store.specs.Calls.{IsAdded, IsCutAt, IsJoined, IsOverwritten, IsRemoved};
+ghost use Rattle.span_store.specs.Calls.{IsSpanFrom};
 
 use crate::border::{border_at, join_in};
 use crate::filing::{cut_in, put_in, take_out};
 use crate::piece::{HALF, Piece};
-use crate::place::{Place, last_begun, span_at};
+use crate::place::{Place, first_from, last_begun, span_at};
 use crate::read::read_spans;
 use crate::row::prepare;
 use crate::run::{has_run, lacks_run};
@@ -191,6 +192,21 @@ impl<S: Span> Holdings<S> {
             Some(piece) => piece.end(),
             None => 0,
         }
+    }
+
+    /// The first span that begins at a page or behind it. `None` comes exactly where none does. It
+    /// is found by halving.
+    pub fn span_from(&self, page: u32) -> Option<&S>
+        ensures found { IfSome result (λ span.
+            IsSpanFrom page (span_of S.start S.contents span.now) self.now) }
+        ensures none { IfNone result ((q : ℕ) → page ≤ q → begins self.now q ≡ false) }
+    {
+        let pieces = self.pieces.as_slice();
+        let at = first_from(pieces, page);
+        if at.piece >= pieces.len() {
+            return None;
+        }
+        Some(span_at(pieces, at))
     }
 
     /// Are the `pages` pages from `first` on held?

@@ -5,8 +5,8 @@ ghost use Rattle.std.specs.Prelude.{◌≡◌, ◌+◌, ◌-◌, ◌<◌, ◌≤
 ghost use Rattle.std.specs.Prelude.{IfSome, IfNone};
 ghost use Rattle.span_store.specs.Held.{span_of, spans_of};
 ghost use Rattle.span_store.specs.Order.{IsRank, no_span};
-ghost use Rattle.span_store.specs.Pieces.{AreWithinLimit, IsAt, IsAtOrEnd, IsBefore, IsLastBegun};
-ghost use Rattle.span_store.specs.Pieces.{IsPieceOf, rank_of, spans_in};
+ghost use Rattle.span_store.specs.Pieces.{AreWithinLimit, IsAt, IsAtOrEnd, IsBefore, IsFirstFrom};
+ghost use Rattle.span_store.specs.Pieces.{IsLastBegun, IsPieceOf, rank_of, spans_in};
 
 use crate::piece::Piece;
 use page_port::Span;
@@ -102,6 +102,20 @@ pub fn after<S: Span>(pieces: &[Piece<S>], at: Place) -> Place
     Place {
         piece: at.piece + 1,
         index: 0,
+    }
+}
+
+/// The place of the first span that begins at a page or behind it: no piece's where none does.
+pub fn first_from<S: Span>(pieces: &[Piece<S>], page: u32) -> Place
+    requires { AreWithinLimit pieces.now }
+    ensures { IsFirstFrom pieces.now page result.piece result.index }
+{
+    if page == 0 {
+        return Place { piece: 0, index: 0 };
+    }
+    match last_begun(pieces, page as u64 - 1) {
+        Some(begun) => after(pieces, begun),
+        None => Place { piece: 0, index: 0 },
     }
 }
 

@@ -12,7 +12,6 @@ use Rattle.page_port.specs.Pages.{AreOf, IsSized}
 use Rattle.page_port.specs.Device.{Device, IsOfMount, IsFront, after_mount, after_return, is_home, resized, returned_bytes, with_faults}
 use Rattle.image_model.specs.Super.{image_page}
 use Rattle.image_model.specs.Image.{image_pages}
-use Rattle.store_format.specs.Absorbed.{HasAbsorbed}
 use Rattle.store_format.specs.Rows.{row_page}
 use Rattle.store_format.specs.Writing.{IsStoreWritten, IsCutShort}
 use Rattle.store_format.specs.Formatting.{store_bytes, IsHalfFormatted, IsFormatted}
@@ -164,10 +163,19 @@ mounted-out n first mounted after size count faults last unit many long is stays
     }
 
 -- a count of faults, where a port that had none came back with some
-pub failed-count : (failure : Type 0) (before mid port now : ℕ) → mid ≡ before → counted mid port ≤ now → Rose 0 port → failure →
-    HasAbsorbed before 0 now failure
-failed-count failure before mid port now same counts rose failed = record {
-  kept = omega (arith, same, counts);
+pub failed-count : (failure : Type 0) (before mid port now : ℕ) → mid ≡ before → mid ≤ now → counted mid port ≤ now → Rose 0 port →
+    failure →
+    HasCause before now failure
+failed-count failure before mid port now same never counts rose failed = record {
+  kept = omega (arith, same, never);
   raised = λ _. omega (arith, same, counts, rose);
-  still = λ none not. absurd (not failed);
+  still = λ not. absurd (not failed);
+}
+
+-- the same, where it came back with none
+pub clean-count : (failure : Type 0) (before mid now : ℕ) → mid ≡ before → now ≡ mid → (failure → ⊥) → HasCause before now failure
+clean-count failure before mid now same still none = record {
+  kept = omega (arith, same, still);
+  raised = λ failed. absurd (none failed);
+  still = λ _. still ∙ same;
 }

@@ -2,4 +2,3 @@ pub mod Rows
 pub mod Writing
 pub mod Blank
 pub mod Formatting
-pub mod Absorbed

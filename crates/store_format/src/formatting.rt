@@ -8,7 +8,6 @@ ghost use Rattle.page_port.specs.Device.{is_home};
 ghost use Rattle.page_port.specs.Pages.{IsSized};
 ghost use Rattle.image_model.specs.Image.{image_pages};
 ghost use Rattle.image_model.specs.Super.{super_bytes};
-ghost use Rattle.store_format.specs.Absorbed.{HasAbsorbed};
 ghost use Rattle.store_format.specs.Rows.{row_page, KeepsShape};
 ghost use Rattle.store_format.specs.Writing.{AreDirectories, IsStoreWritten, IsCutShort, front_count};
 ghost use Rattle.store_format.specs.Blank.{blank_directory, blank_front};
@@ -35,7 +34,7 @@ pub fn format<Y: Bay>(alloc: Global, bay: &mut Y, geometry: &Geometry) -> Result
     ensures failed { OnErr result (IsTrue Y.S.tells →
         IsUnformatted geometry.now (Y.device bay.old).bytes (Y.device bay.new).bytes) }
     ensures home { IsTrue Y.S.tells → IsTrue (is_home (Y.device bay.new)) }
-    ensures cause { HasAbsorbed (Y.device bay.old).faults 0 (Y.device bay.new).faults
+    ensures cause { HasCause (Y.device bay.old).faults (Y.device bay.new).faults
         (result ≡ Err BayFail.Fault) }
 {
     let Ok(mut room) = vec![in alloc; 0u8; front_bytes(geometry)] else {
@@ -63,7 +62,7 @@ fn format_prepared<Y: Bay>(bay: &mut Y, geometry: &Geometry, room: &mut [u8]) ->
     ensures failed { OnErr result (IsTrue Y.S.tells →
         IsHalfFormatted geometry.now (Y.device bay.old).bytes (Y.device bay.new).bytes) }
     ensures home { IsTrue Y.S.tells → IsTrue (is_home (Y.device bay.new)) }
-    ensures cause { HasAbsorbed (Y.device bay.old).faults 0 (Y.device bay.new).faults
+    ensures cause { HasCause (Y.device bay.old).faults (Y.device bay.new).faults
         (result ≡ Err BayFail.Fault) }
 {
     let span = bay.mount(geometry.page(), geometry.pages())?;
@@ -100,7 +99,7 @@ fn format_mounted<Y: Bay>(
     ensures failed { OnErr result (IsTrue Y.S.tells → IsCutShort geometry.now
         (blank_directory geometry.now)
         (row_page (Y.S.contents span)) (image_pages geometry.now (Y.device bay.new).bytes)) }
-    ensures cause { HasAbsorbed (Y.device bay.old).faults 0 (Y.device bay.new).faults
+    ensures cause { HasCause (Y.device bay.old).faults (Y.device bay.new).faults
         (result ≡ Err BayFail.Fault) }
 {
     let written = write_store(&mut port, &mut span, geometry, room);

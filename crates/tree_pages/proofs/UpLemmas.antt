@@ -68,7 +68,7 @@ up-levels at f j k below (nodes ∷ up) stored carried =
     ∙ ap (λ (level : List PageNode). levels_down at k level ++ nodes ∷ up) (named-back at j nodes below carried.1 stored.0)))
 
 -- names have the bytes of what they name
-bytes-named : (nodes : List PageNode) → bytes_of (map pair_of nodes) ≡ bytes_of (pairs_of_level nodes)
+pub bytes-named : (nodes : List PageNode) → bytes_of (map pair_of nodes) ≡ bytes_of (pairs_of_level nodes)
 bytes-named [] = refl
 bytes-named (node ∷ rest) =
     let names = sum_by-cons (λ (p : Pair). p.bytes) (pair_of node) (map pair_of rest) in

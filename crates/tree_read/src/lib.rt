@@ -16,6 +16,7 @@ mod start;
 mod tests;
 
 pub use failure::TreeFail;
+pub use load::{load as load_node, pairs_of};
 pub use node_codec::Placed;
 pub use range::entries;
 pub use search::{find, length};

@@ -21,7 +21,7 @@ use Rattle.world.proofs.Tied.{slot_seen_at-seen, is_holder-own, slot_seen_at-set
 use Rattle.world.proofs.Viewed.{length-viewed, slot_at-viewed, seat_at-viewed, slots-viewed}
 
 -- the greatest stamp that a session holds bounds each that it holds
-greatest-bound : (s : ℕ) (slots : List Slot) (o : ℕ) → is_holder s (get_or slots o no_slot).holder ≡ true →
+pub greatest-bound : (s : ℕ) (slots : List Slot) (o : ℕ) → is_holder s (get_or slots o no_slot).holder ≡ true →
     (get_or slots o no_slot).stamp ≤ greatest_held s slots
 greatest-bound s [] o mine = absurd (false≢true mine)
 greatest-bound s (slot ∷ slots) zero mine = rw mine (omega arith)
@@ -30,7 +30,7 @@ greatest-bound s (slot ∷ slots) (suc o) mine =
     omega arith
 
 -- and is the least such number
-greatest-least : (s : ℕ) (slots : List Slot) (bound : ℕ) →
+pub greatest-least : (s : ℕ) (slots : List Slot) (bound : ℕ) →
     ((o : ℕ) → is_holder s (get_or slots o no_slot).holder ≡ true → (get_or slots o no_slot).stamp ≤ bound) →
     greatest_held s slots ≤ bound
 greatest-least s [] bound all = omega arith

@@ -48,7 +48,7 @@ pub put-shelf : (xs ys : List (Option Object)) (o : ℕ) (x : Object) (ends : Op
 put-shelf xs ys o x ends old is put =
     let home : Some ys ≡ Some (set xs o (Some x)) = put.home ∙ ap (λ h. option_map (λ zs. slice_set zs o (Some x)) h) is in cc
 
-set-back : {A : Type 0} (xs : List A) (o : ℕ) (x y : A) → slice_get xs o ≡ Some x → set (set xs o y) o x ≡ xs
+pub set-back : {A : Type 0} (xs : List A) (o : ℕ) (x y : A) → slice_get xs o ≡ Some x → set (set xs o y) o x ≡ xs
 set-back [] o x y found = absurd cc
 set-back (z ∷ xs) zero x y found = let same : z ≡ x = cc in ap (λ first. first ∷ xs) (sym same)
 set-back (z ∷ xs) (suc o) x y found = ap (λ rest. z ∷ rest) (set-back xs o x y found)

@@ -1,6 +1,7 @@
 -- The whole mount comes back with what was written.
 use Rattle.std.proofs.Common.{◌≡◌, ℕ, ◌<◌, List, [], replicate, None, refl, sym, ap, subst, ◌∙◌, arith}
 use Rattle.std.specs.Prelude.{IsTrue}
+use Rattle.std.proofs.lemmas.Bool.{false≢true}
 use Rattle.fault_count.specs.Counts.{Meter, Rose}
 use Rattle.geometry_model.specs.Numbers.{pages}
 use Rattle.page_port.specs.Device.{Device}
@@ -8,7 +9,7 @@ use Rattle.image_model.specs.Image.{image_pages}
 use Rattle.store_format.specs.Rows.{row_page}
 use Rattle.store_format.specs.Blank.{blank_directory, blank_front}
 use Rattle.store_format.proofs.WritingLemmas.{written-alike, cut-alike}
-use Rattle.store_format.proofs.FormatLemmas.{CameBack, IsAllOut, whole-back, failed-count}
+use Rattle.store_format.proofs.FormatLemmas.{CameBack, IsAllOut, whole-back, failed-count, clean-count}
 use Rattle.store_format.proofs.formatting.format_mounted.Goals as goal
 
 pub returns-in-Ok-clause-home : goal.returns-in-Ok-clause-home
@@ -92,6 +93,12 @@ pub returns-in-Err-clause-cause : goal.returns-in-Err-clause-cause
 returns-in-Err-clause-cause g c =
     failed-count _ (g.Y.Bay.device c.args.bay.now).faults (g.Y.Bay.device c.restore.new.self).faults
     (g.Y.P.Port.meter c.write_store-written.new.port).faults (g.Y.Bay.device c.absorb.new.self).faults
-    (ap (λ (d : Device). d.faults) c.restore.ensures.others) c.absorb.ensures.faults
+    (ap (λ (d : Device). d.faults) c.restore.ensures.others) c.absorb.ensures.kept c.absorb.ensures.faults
     (subst (λ (k : ℕ). Rose k (g.Y.P.Port.meter c.write_store-written.new.port).faults) (ap (λ (m : Meter). m.faults) c.requires.port)
     (c.in-Err.ensures.cause.raised refl)) refl
+
+pub returns-in-Ok-clause-cause : goal.returns-in-Ok-clause-cause
+returns-in-Ok-clause-cause g c =
+    clean-count _ (g.Y.Bay.device c.args.bay.now).faults (g.Y.Bay.device c.restore.new.self).faults
+    (g.Y.Bay.device c.absorb.new.self).faults (ap (λ (d : Device). d.faults) c.restore.ensures.others)
+    (c.absorb.ensures.none (c.in-Ok.ensures.cause.still false≢true ∙ ap (λ (m : Meter). m.faults) c.requires.port)) (λ bad. cc)

@@ -200,3 +200,6 @@ edit_held-requires-clause-ready g c =
     (λ x. IsReady (g.B.Body.form x.body).numbers (g.L.Hints.rest c.args.latches.now))
     c.self.view_is (subst (λ held. IsFirstAt held c.args.o c.in-Some.i) c.deref.ensures.value c.in-Some.ensures.found)
     c.index_mut.ensures.value c.requires.ready
+
+pub returns-clause-tied : goal.returns-clause-tied
+returns-clause-tied g c = λ tell. rw (at g c).found ((at g c).made.tied tell)

@@ -68,3 +68,6 @@ returns-clause-same g c = whole g c
 
 pub returns-clause-goes_on : goal.returns-clause-goes_on
 returns-clause-goes_on g c = goes-on-noted _ _ _ _ c.args.self.now _ c.args.o _ (whole g c)
+
+pub returns-clause-tied : goal.returns-clause-tied
+returns-clause-tied g c = λ tell. rw (at g c).found ((at g c).made.tied tell)

@@ -116,3 +116,6 @@ read_held-requires g c = record {
       (subst (λ held. IsFirstAt held c.args.o c.in-Some.i) c.deref.ensures.value c.in-Some.ensures.found)
       c.index_mut.ensures.value c.requires.page;
 }
+
+pub returns-clause-tied : goal.returns-clause-tied
+returns-clause-tied g c = λ tell. rw (at g c).found ((at g c).made.tied tell)

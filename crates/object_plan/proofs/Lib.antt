@@ -1,0 +1,10 @@
+pub mod SideLemmas
+pub mod TrimLemmas
+pub mod AskLemmas
+pub mod PlannedLemmas
+pub mod ReadLemmas
+pub mod PackedLemmas
+pub mod MakeLemmas
+pub mod WorkingLemmas
+pub mod ToldLemmas
+pub mod CodeLemmas

@@ -1,0 +1,13 @@
+pub mod RunLemmas
+pub mod LetGoLemmas
+pub mod LeftLemmas
+pub mod MarkLemmas
+pub mod EndTables
+pub mod TiedLemmas
+pub mod GiveLemmas
+pub mod EndLemmas
+pub mod LoadLemmas
+pub mod ReadLemmas
+pub mod LookLemmas
+pub mod TreeReadLemmas
+pub mod CreateLemmas

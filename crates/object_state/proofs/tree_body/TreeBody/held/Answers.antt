@@ -1,0 +1,5 @@
+use Rattle.object_state.proofs.LoadLemmas.{tree-keeping}
+use Rattle.object_state.proofs.tree_body.TreeBody.held.Goals as goal
+
+pub returns-clause-keeping : goal.returns-clause-keeping
+returns-clause-keeping g c = tree-keeping g.P.S.Span.tells c.args.self.now c.keeps_tree.ensures

@@ -1,0 +1,28 @@
+-- An edit that asks for no page.
+use Rattle.std.specs.Prelude.{◌≡◌, ℕ, Bool, List, Option, None, Ok}
+use Rattle.eos_ops.specs.declared.edit.Edit.{Edit}
+use Rattle.eos_ops.specs.declared.outcome.Outcome.{Outcome}
+use Rattle.fault_count.specs.Counts.{Meter}
+use Rattle.moment_model.specs.Edit.{edited_slot}
+use Rattle.superdirectory.specs.Rest.{Rest}
+use Rattle.superdirectory.specs.Trace.{SpaceEvent}
+use Rattle.object_body.specs.Calls.{IsEdit, Stage}
+use Rattle.object_state.specs.Kind.{TreeMayRefuse, TreeMayWrite}
+use Rattle.object_state.specs.Tree.{TreeView, tree_form, tree_contents}
+use Rattle.object_body.specs.Form.{HaveLengths}
+
+-- what the object shows, beside spaces
+abbrev pub tree_stage : TreeView → Rest → Option (List SpaceEvent) → Stage
+tree_stage v rest trace = record {
+  form = tree_form v;
+  told = tree_contents v;
+  rest = rest;
+  trace = trace;
+}
+
+-- it is the edit that a body is asked for, whatever the spaces and the port are: it uses neither
+abbrev pub MakesTreeEdit : Bool → Edit → Outcome → TreeView → TreeView → Type 0
+MakesTreeEdit tells edit outcome old new = (start : ℕ) (rest : Rest)
+    (trace : Option (List SpaceEvent)) (meter : Meter) → rest.entered ≡ None →
+    IsEdit tells HaveLengths edited_slot TreeMayRefuse TreeMayWrite start edit (Ok outcome)
+    (tree_stage old rest trace) (tree_stage new rest trace) meter meter
