@@ -1,0 +1,11 @@
+-- The pairs so far have 100 bytes each.
+use Rattle.std.proofs.Common.{◌≡◌, ◌*◌}
+use Rattle.content_laws.specs.Spelling.{HaveBytes}
+use Rattle.tree_model.specs.Tree.{bytes_of}
+use Rattle.splice_rows.proofs.store.pairs_of.Given as goal
+
+abbrev pub invariant-loop-i : goal.invariant-loop-i
+invariant-loop-i l = record {
+  bytes : bytes_of l.pairs.items ≡ 100 * l.i;
+  some : HaveBytes l.pairs.items;
+}
