@@ -1,0 +1,13 @@
+pub mod JudgedLemmas
+pub mod EachLemmas
+pub mod OwnerLemmas
+pub mod CountLemmas
+pub mod HeadLemmas
+pub mod TreeLemmas
+pub mod ShareLemmas
+pub mod UsedLemmas
+pub mod CodeLemmas
+pub mod LostLemmas
+pub mod SegmentLemmas
+pub mod RoomLemmas
+pub mod GivenLemmas

@@ -1,0 +1,4 @@
+pub mod Owners
+pub mod Verdicts
+pub mod Rooms
+pub mod Shares
