@@ -1,7 +1,7 @@
 /* The plain program that bench/calls.py compares with: the calls of crates/bench_space by hand.
  *
  *   plain_calls grants PAGES ROUNDS    a tree of masks over 16,384 pages
- *   plain_calls writes PAGES ROUNDS    pwrite to bench_space.img in this folder
+ *   plain_calls writes PAGES ROUNDS [BYTES]    pwrite to bench_space.img in this folder, pages of so many bytes
  */
 #include <fcntl.h>
 #include <stdint.h>
@@ -59,16 +59,16 @@ static void grants(uint32_t n, uint32_t rounds) {
     }
 }
 
-static int writes(uint32_t n, uint32_t rounds) {
-    uint8_t *bytes = malloc((size_t)n * PAGE);
+static int writes(uint32_t n, uint32_t rounds, size_t page) {
+    uint8_t *bytes = malloc(n * page);
     uint32_t at = 0, last = PAGES - n;
     int file = open("bench_space.img", O_RDWR | O_CREAT, 0644);
-    if (!bytes || file < 0 || ftruncate(file, (off_t)(FIRST + PAGES) * PAGE))
+    if (!bytes || file < 0 || ftruncate(file, (off_t)((FIRST + PAGES) * page)))
         return 1;
-    memset(bytes, 7, (size_t)n * PAGE);
+    memset(bytes, 7, n * page);
     for (uint32_t i = 0; i < rounds; i++) {
-        size_t size = (size_t)n * PAGE;
-        if (pwrite(file, bytes, size, (off_t)(FIRST + at) * PAGE) != (ssize_t)size)
+        size_t size = n * page;
+        if (pwrite(file, bytes, size, (off_t)((FIRST + at) * page)) != (ssize_t)size)
             return 1;
         at = at + n <= last ? at + n : 0;
     }
@@ -77,15 +77,17 @@ static int writes(uint32_t n, uint32_t rounds) {
 
 int main(int count, char **words) {
     uint32_t n, rounds;
-    if (count != 4)
+    size_t page;
+    if (count != 4 && count != 5)
         return 2;
     n = (uint32_t)atoi(words[2]);
     rounds = (uint32_t)atoi(words[3]);
-    if (n < 1 || n > 64)
+    page = count == 5 ? (size_t)atoi(words[4]) : PAGE;
+    if (n < 1 || n > 64 || page < 1)
         return 2;
     if (!strcmp(words[1], "grants")) {
         grants(n, rounds);
         return masks[1] ? 0 : 1;
     }
-    return writes(n, rounds);
+    return writes(n, rounds, page);
 }

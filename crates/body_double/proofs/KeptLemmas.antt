@@ -10,6 +10,7 @@ use Rattle.eos_ops.specs.declared.outcome.Outcome.TheVariants.{Done, Exists}
 use Rattle.eos_ops.specs.Edits.{edited}
 use Rattle.fault_count.specs.Counts.{Meter}
 use Rattle.geometry_model.specs.Numbers.{Numbers, IsInRange}
+use Rattle.geometry_model.proofs.NumberLaws.{page-some}
 use Rattle.layout_model.specs.Grants.{Spaces}
 use Rattle.tree_model.specs.declared.entry.Pair.{Pair}
 use Rattle.tree_model.specs.declared.tree.Root.{Root}
@@ -36,7 +37,7 @@ use Rattle.object_body.specs.Memory.{EditMayTakeMemory}
 use Rattle.object_body.specs.Moves.{MovesTold}
 use Rattle.object_body.specs.Places.{IsReady, AreHome}
 use Rattle.object_body.specs.Stored.{IsHeldTree, IsLoad, IsLoaded, IsKeeping, HasStoredTree, StandsOn, entry_length, entry_of, root_in}
-use Rattle.object_body.proofs.HeldTreeLemmas.{sized-page, AreFull, has-length, some-bytes, twice-some}
+use Rattle.object_body.proofs.HeldTreeLemmas.{sized-page, AreFull, has-length, twice-some}
 use Rattle.object_body.proofs.MoveLemmas.{same-moves}
 use Rattle.object_body.proofs.CallLemmas.{keeps-frame, used-not, cause-none, no-memory, empty-read}
 use Rattle.object_body.proofs.TurnLemmas.{turned-moves, turned-not}
@@ -367,7 +368,7 @@ kept-of tells fits n entry given held is range loads =
     record {
       on_data = load.on_data;
       sized = load.sized;
-      shown = λ tell. shown tells n fits entry held (some-bytes n range) load.sized tell (load.told tell);
+      shown = λ tell. shown tells n fits entry held (page-some n range) load.sized tell (load.told tell);
       absent = λ again. absurd cc;
     }
 

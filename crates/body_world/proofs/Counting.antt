@@ -9,6 +9,7 @@ use Rattle.history.specs.Refusals.{is_answer}
 use Rattle.layout_model.specs.Layout.{Tree}
 use Rattle.machine.specs.Machine.{Machine, IsSession, is_active}
 use Rattle.machine.specs.Replies.{refused, IsAnswered}
+use Rattle.machine.proofs.Answering.{unrefused}
 use Rattle.moment_model.specs.Run.{Lays, AreCounts}
 use Rattle.object_body.specs.Places.{IsStore, AreHome}
 use Rattle.shadow_txn.specs.Transaction.{Transaction}
@@ -47,11 +48,6 @@ world-counted tells good show n shelf txns rest now page world kept same = recor
         locked = roles.locked;
       };
 }
-
--- nothing refuses a status
-unrefused : (m : Machine) (s : ℕ) → refused m s Status ≡ None
-unfolding refused
-unrefused m s = elim (cases_Bool (is_active m s)) [ inl active ↦ rw active refl | inr idle ↦ rw idle refl ]
 
 pub owed-status : (m : Machine) (s free locked held : ℕ) → IsSession m s → IsOwedStep m s Status (reply.Status free locked held) m
 owed-status m s free locked held session = record {

@@ -20,7 +20,7 @@ use Rattle.world.specs.Ending.{aborted, machine_aborted}
 use Rattle.world.proofs.Aborting.{machine_aborted-none, machine_aborted-more}
 use Rattle.world.proofs.First.{active-closed}
 use Rattle.world.proofs.Readings.{below}
-use Rattle.body_world.specs.Ending.{IsBareEnd, IsToldEnd, IsStopped}
+use Rattle.body_world.specs.Ending.{IsBareEnd, IsToldEnd, IsStopped, HaveStopped}
 use Rattle.body_world.specs.Session.{Shown}
 use Rattle.body_world.specs.Ties.{txn_at, machine_seen, ShareObjects}
 use Rattle.body_world.proofs.Endings.{in-hand}
@@ -107,14 +107,6 @@ pub all_aborted-more : (n k : ℕ) (past : List Event) (moment : Moment) → k �
 all_aborted-more n zero past moment is = absurd (omega (arith, is))
 all_aborted-more n (suc k) past moment is =
     let same : k ≡ n = omega (arith, is) in ap (λ i. aborted_by (suc k) past (all_aborted i past moment)) same
-
--- Sessions 1 to n have stopped, one after the other.
-pub record HaveStopped (tells : Bool) (n : ℕ) (w w' : Store) : Type 0 where
-  pub numbers : w'.numbers ≡ w.numbers
-  pub idle : (s : ℕ) → s ≤ n → is_active w'.machine s ≡ false
-  pub machine : IsTrue tells → w'.machine ≡ machine_aborted n w.machine
-  pub moment : IsTrue tells → (past : List Event) → ((s : ℕ) → 1 ≤ s → s ≤ SESSIONS → HoldsBy s past w.machine)
-      → w'.moment ≡ all_aborted n past w.moment
 
 pub stopped-none : (tells : Bool) (n : ℕ) (w : Store) → n ≡ 0 → HaveStopped tells n w w
 stopped-none tells n w none = record {

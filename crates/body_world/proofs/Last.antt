@@ -24,12 +24,11 @@ use Rattle.store_model.specs.Store.{Store, HoldsBy}
 use Rattle.superdirectory.specs.Grants.{AreTold, free_sets}
 use Rattle.superdirectory.specs.Rest.{Rest}
 use Rattle.world.specs.Ending.{machine_aborted}
-use Rattle.body_world.specs.Ending.{AreToldParts, AreLastParts}
+use Rattle.body_world.specs.Ending.{AreToldParts, AreLastParts, HaveStopped}
 use Rattle.body_world.specs.Keeping.{IsAtWork, HaveRoles, IsWorld, is_taken, locked_sets}
 use Rattle.body_world.specs.Session.{Shown, at_home}
 use Rattle.body_world.specs.Start.{AreStoreSpaces, AreStoreObjects, moment_of_parts}
 use Rattle.body_world.specs.Ties.{seen_at, pages_of, machine_seen, moment_seen, viewed}
-use Rattle.body_world.proofs.Finishing.{HaveStopped}
 use Rattle.body_world.proofs.First.{first_shelf, seen-shelf, reads-shelf}
 use Rattle.body_world.proofs.Viewed.{as_slot, slot_at-seen}
 

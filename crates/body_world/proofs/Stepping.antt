@@ -21,16 +21,13 @@ use Rattle.world.specs.Session.{begin_reply}
 use Rattle.store_model.specs.Store.{Store, IsToldStep, IsOwedStep, event_of}
 use Rattle.world.proofs.Steps.{step-idle, step-closes, step-too_long}
 use Rattle.body_world.specs.Ending.{IsToldEnd, ended_by}
-
-same-branches : (b : Bool) (x : Moment) → (if b then x else x) ≡ x
-same-branches true x = refl
-same-branches false x = refl
+use Rattle.base_laws.proofs.OptionLaws.{same_branches}
 
 -- a begin moves nothing, whatever it is answered
 pub begun-moves : (laid : Lays) (n : Numbers) (s : ℕ) (past : List Event) (moment : Moment) (r : Reply)
     → moment ≡ moment_after laid n past moment (event_of s Begin r)
 unfolding moment_after
-begun-moves laid n s past moment r = sym (same-branches (is_ok_reply r) moment)
+begun-moves laid n s past moment r = sym (same_branches (is_ok_reply r) moment)
 
 -- nothing but `ok` moves the moment
 pub unmoved : (laid : Lays) (n : Numbers) (s : ℕ) (past : List Event) (moment : Moment) (c : Command) (r : Reply)

@@ -16,6 +16,7 @@ use Rattle.object_body.specs.Moves.{MovesTold}
 use Rattle.object_body.specs.Places.{IsStore, AreHome}
 use Rattle.shadow_txn.specs.declared.held.Held.{Held}
 use Rattle.shadow_txn.specs.Held.{held_object, AreDistinct}
+use Rattle.shadow_txn.proofs.EndingLemmas.{found_later}
 use Rattle.space_directory.specs.SpaceView.{SpaceView}
 use Rattle.superdirectory.specs.Grants.{AreTold}
 use Rattle.superdirectory.specs.Rest.{Rest}
@@ -80,16 +81,6 @@ ended-other committed (h ∷ held) moment o none =
     get_or-set_other (ended_each committed held moment) h.number o
     (end_slot committed (object_slot (ended_each committed held moment) h.number)) absent_slot (λ e. away.0 (sym e))
     ∙ ended-other committed held moment o away.1
-
--- an object of the rest of a list of distinct ones is one of the list
-in-list : {T : Type 0} (h : Held T) (held : List (Held T)) (o : ℕ) (x : T) → held_object h.number held ≡ None → held_object o held ≡ Some x
-    → held_object o (h ∷ held) ≡ Some x
-in-list {T} h held o x none found =
-    let apart : h.number ≢ o = λ e. let lost : held_object h.number held ≡ Some x = subst (λ q. held_object q held ≡ Some x)
-    (sym e) found in
-    absurd cc in
-    let away : nat_eq h.number o ≡ false = ne_eqb h.number o apart in
-    rw away found
 
 pub slot-ended : (committed : Bool) (told : Contents) → (end_contents committed told).slot ≡ end_slot committed told.slot
 slot-ended true told = refl
@@ -167,8 +158,8 @@ walk {T} tells suits form contents good n still committed (h ∷ held) moment be
     let own : held_object h.number (h ∷ held) ≡ Some h.object = let at : nat_eq h.number h.number ≡ true = eq-eqb h.number h.number refl in
     rw at refl in
     let mid = walk tells suits form contents good n still committed held moment before turns.0 tell apart.1
-    (λ o x found. of o x (in-list h held o x apart.0 found)) (λ o x found. is o x (in-list h held o x apart.0 found))
-    (λ o x found. within o x (in-list h held o x apart.0 found)) roles turns.1 in
+    (λ o x found. of o x (found_later h held o x apart.0 found)) (λ o x found. is o x (found_later h held o x apart.0 found))
+    (λ o x found. within o x (found_later h held o x apart.0 found)) roles turns.1 in
     let here : h.number < length moment = within h.number h.object own in
     end-one tells suits good n (still_without still held) committed (form h.object) (contents h.object) (ended_each committed held moment)
     h.number turns.0 after tell (of h.number h.object own)

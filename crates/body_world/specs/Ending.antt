@@ -60,3 +60,13 @@ pub record IsStopped (tells : Bool) (s : ℕ) (w w' : Store) : Type 0 where
   pub machine : IsTrue tells → w'.machine ≡ aborted s w.machine
   pub moment : IsTrue tells → (past : List Event) → HoldsBy s past w.machine →
       w'.moment ≡ aborted_by s past w.moment
+
+-- Sessions 1 to n have aborted what they had open, one after the other: nothing of theirs is open.
+-- Where bytes are told, these are steps of the machine and of the moment.
+pub record HaveStopped (tells : Bool) (n : ℕ) (w w' : Store) : Type 0 where
+  pub numbers : w'.numbers ≡ w.numbers
+  pub idle : (s : ℕ) → s ≤ n → is_active w'.machine s ≡ false
+  pub machine : IsTrue tells → w'.machine ≡ machine_aborted n w.machine
+  pub moment : IsTrue tells → (past : List Event) →
+      ((s : ℕ) → 1 ≤ s → s ≤ SESSIONS → HoldsBy s past w.machine) →
+      w'.moment ≡ all_aborted n past w.moment

@@ -8,7 +8,8 @@ ghost use Rattle.eos_ops.specs.Objects.{object_of, is_too_long};
 ghost use Rattle.machine.specs.Machine.{is_active, is_holder, slot_at};
 ghost use Rattle.store_model.specs.Store.{IsOwedStep, IsToldStep};
 ghost use Rattle.world.specs.Session.{begin_reply};
-ghost use Rattle.body_world.specs.Ending.{AreLastParts, IsBareEnd, IsStopped, IsToldEnd};
+ghost use Rattle.body_world.specs.Ending.{AreLastParts, HaveStopped, IsBareEnd, IsStopped};
+ghost use Rattle.body_world.specs.Ending.{IsToldEnd};
 ghost use Rattle.body_world.specs.Pages.{MovesPages, UsesPort};
 ghost use Rattle.body_world.specs.Served.{NamesThresholdIn};
 ghost use Rattle.body_world.specs.Session.{shown_by};
@@ -268,6 +269,16 @@ impl<P: Port, B: Body<P = P>> World<P, B> {
         )
     }
 
+    /// Aborts each open transaction, in the order of sessions. It takes no memory.
+    pub fn stop_all(&mut self)
+        ensures stopped { HaveStopped P.S.tells SESSIONS self.old.store self.new.store }
+        ensures port { self.new.meter ≡ self.old.meter }
+    {
+        for place in 0..SESSIONS {
+            self.stop(place + 1);
+        }
+    }
+
     /// Aborts each open transaction, in the order of sessions, and hands the parts out. It takes no
     /// memory.
     pub fn finish(self) -> Unmade<P, B>
@@ -276,9 +287,7 @@ impl<P: Port, B: Body<P = P>> World<P, B> {
         ensures port { P.meter result.port ≡ self.meter }
     {
         let mut world = self;
-        for place in 0..SESSIONS {
-            world.stop(place + 1);
-        }
+        world.stop_all();
         // With nothing open nothing is held: the type keeps that, for all of its sessions.
         prove!(world.sessions.len() == SESSIONS as usize);
         let World {

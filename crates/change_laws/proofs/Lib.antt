@@ -12,6 +12,7 @@ pub mod SegmentLemmas
 pub mod AppendLemmas
 pub mod LayingLemmas
 pub mod SuitLemmas
+pub mod ThereLemmas
 pub mod UsedNodeLemmas
 pub mod UsedLemmas
 pub mod PlannedLemmas

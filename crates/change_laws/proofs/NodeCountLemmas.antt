@@ -16,11 +16,11 @@ use Rattle.change_laws.proofs.ShapeLemmas.{raised_levels-top, raised_levels-more
 -- ---- how many are made
 
 -- two new levels of one shape
-record Alike (a b : NewLevel) : Type 0 where
-  size : length a.nodes ≡ length b.nodes
-  new : length a.made ≡ length b.made
-  start : a.from ≡ b.from
-  many : a.count ≡ b.count
+pub record Alike (a b : NewLevel) : Type 0 where
+  pub size : length a.nodes ≡ length b.nodes
+  pub new : length a.made ≡ length b.made
+  pub start : a.from ≡ b.from
+  pub many : a.count ≡ b.count
 
 exchanged-alike : (level : List PageNode) (site : Site) (from count : ℕ) (fresh other : List Pair) → length fresh ≡ length other →
     length (exchanged level site from count fresh) ≡ length (exchanged level site from count other)
@@ -40,7 +40,7 @@ site-alike f level from count fresh other same =
     let at = touched_site level from count in
     ap (λ (k : ℕ). if joins f level at k then joined level at else at) (exchanged-alike level at from count fresh other same)
 
-after-alike : (f : ℕ) (level : List PageNode) (from count : ℕ) (fresh other : List Pair) (pages pages2 : List ℕ) →
+pub after-alike : (f : ℕ) (level : List PageNode) (from count : ℕ) (fresh other : List Pair) (pages pages2 : List ℕ) →
     length fresh ≡ length other →
     Alike (level_after f level from count fresh pages) (level_after f level from count other pages2)
 after-alike f level from count fresh other pages pages2 same =
@@ -75,10 +75,10 @@ after-alike f level from count fresh other pages pages2 same =
 pub made-cons : (level : NewLevel) (levels : List NewLevel) → count_made (level ∷ levels) ≡ length level.made + count_made levels
 made-cons level levels = sum_by-cons (λ (l : NewLevel). length l.made) level levels
 
-top-alike : (a b : NewLevel) → Alike a b → is_top a ≡ is_top b
+pub top-alike : (a b : NewLevel) → Alike a b → is_top a ≡ is_top b
 top-alike a b alike = ap (λ (k : ℕ). nat_le k 1) alike.size
 
-raised_levels-alike : (steps f : ℕ) (a b : NewLevel) (pages pages2 : List ℕ) → Alike a b →
+pub raised_levels-alike : (steps f : ℕ) (a b : NewLevel) (pages pages2 : List ℕ) → Alike a b →
     count_made (raised_levels steps f a pages) ≡ count_made (raised_levels steps f b pages2)
 raised_levels-alike zero f a b pages pages2 alike =
     let x = made-cons a [] in

@@ -17,7 +17,7 @@ use Rattle.moment_model.specs.Moment.{Moment, ObjectSlot, absent_slot, object_sl
 use Rattle.moment_model.specs.Moment.{all_committed, is_free, free_in}
 use Rattle.moment_laws.proofs.SumLemmas.{part_within}
 use Rattle.tree_pages.specs.Levels.{version_at, slot_at_rest, version_plain}
-use Rattle.space_directory.proofs.DirectoryPages.{eights, bitmap_of}
+use Rattle.space_directory.proofs.DirectoryPages.{bitmap_of}
 use Rattle.image_model.specs.Super.{image_page, IsSuper, version_in}
 use Rattle.image_model.specs.Directory.{free_bits}
 use Rattle.image_model.specs.Catalog.{entry_in, entry_bytes, is_entry}
@@ -29,6 +29,7 @@ use Rattle.image_laws.proofs.GoLemmas.{image-passes, image-version}
 use Rattle.image_format.proofs.EntryLemmas.{entry_in-entry_bytes}
 use Rattle.closing_laws.specs.Closed.{IsClosedAt, version_entry}
 use Rattle.closing_laws.proofs.EntryLemmas.{stored-has-tree, stored-shows, stored-allowed, stored-room}
+use Rattle.base_laws.proofs.NumberLaws.{eights}
 
 -- the first bytes of page 0 are the first of all
 pub front-bytes : (bytes : List ℕ) (n : Numbers) → IsInRange n → take 256 (image_page n.page bytes 0) ≡ take 256 bytes

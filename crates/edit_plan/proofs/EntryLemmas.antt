@@ -5,6 +5,7 @@ use Rattle.std.proofs.lemmas.Nat.{mul-le}
 use Rattle.base_laws.proofs.ListLaws.{all-map}
 use Rattle.geometry_model.specs.Numbers.{Numbers, IsInRange, space_pages}
 use Rattle.geometry_model.proofs.NumberLaws.{page_size-high, page_size-low, pages-high, space_pages-high, space_pages-low}
+use Rattle.geometry_model.proofs.NumberLaws.{page-some}
 use Rattle.tree_model.specs.declared.entry.Pair.{Pair}
 use Rattle.tree_model.specs.Tree.{page_count}
 use Rattle.tree_model.proofs.PageCountLaws.{count-behind, count-rises}
@@ -17,10 +18,6 @@ use Rattle.edit_plan.specs.Cuts.{IsNumbered}
 use Rattle.edit_plan.specs.Planned.{IsEntry}
 use Rattle.edit_plan.specs.Spots.{LiesInside, head_piece}
 use Rattle.edit_plan.proofs.SpotLemmas.{head-from, head_piece-before, head_piece-behind, head_piece-inside}
-
--- a page has bytes
-pub page-some : (n : Numbers) → IsInRange n → 0 < n.page
-page-some n range = let low = page_size-low n.page range.page_size in omega (arith, low)
 
 -- a space has bytes, and fewer than 2^27
 pub space-some : (n : Numbers) → IsInRange n → 0 < space_pages n * n.page

@@ -12,6 +12,7 @@ use Rattle.std.proofs.lemmas.List.Elements.{All-drop, All-from_recursion, All-ta
 use Rattle.std.proofs.lemmas.List.Sums.{sum_by-cons}
 use Rattle.std.proofs.Math.Nat.{mul-le-mul_right}
 use Rattle.geometry_model.specs.Numbers.{Numbers, IsInRange, space_pages}
+use Rattle.geometry_model.proofs.NumberLaws.{page-some}
 use Rattle.base_laws.proofs.ListLaws.{all-append}
 use Rattle.tree_model.specs.declared.entry.Pair.{Pair}
 use Rattle.tree_model.specs.declared.entry.Placed.{Placed}
@@ -43,7 +44,6 @@ use Rattle.edit_plan.specs.Planned.{IsCut, IsEntry, IsPlan}
 use Rattle.edit_plan.proofs.CutLemmas.{AreThere, kept-content, lengths-runs, lengths-total}
 use Rattle.edit_plan.proofs.CutLemmas.{made-layout_part, made-content, made-from, pieces-length, stretches-bytes}
 use Rattle.edit_plan.proofs.CutLemmas.{stretches-content, total}
-use Rattle.edit_plan.proofs.EntryLemmas.{page-some}
 use Rattle.edit_plan.proofs.SideContents.{back-content, front-content, tight-back, tight-front}
 use Rattle.edit_plan.proofs.SpotLemmas.{head-bytes, head-from}
 

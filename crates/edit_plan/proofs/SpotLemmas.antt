@@ -13,6 +13,7 @@ use Rattle.tree_model.specs.declared.entry.Placed.{Placed}
 use Rattle.tree_model.specs.Range.{pairs_of}
 use Rattle.tree_model.specs.Tree.{bytes_of, page_count}
 use Rattle.tree_model.proofs.PageCountLaws.{count-none}
+use Rattle.tree_model.proofs.RangeLemmas.{no_segment, next-pair}
 use Rattle.layout_model.specs.Parts.{count_begun, count_ended, head_of, left_of, right_of, without_pages}
 use Rattle.content_laws.specs.Spelling.{HaveBytes}
 use Rattle.content_laws.proofs.SideLemmas.{count_begun-more, count_ended-behind, count_ended-within}
@@ -26,20 +27,6 @@ use Rattle.edit_parts.specs.Pieces.{IsFrom, LiesIn, piece_bytes}
 use Rattle.edit_plan.specs.Spots.{IsSpot, head_in, head_piece}
 
 -- ---- one segment after the other
-
-abbrev pub no_segment : Placed
-no_segment = record { start = 0; pair = record { bytes = 0; page = 0 } }
-
--- the segments from the j-th on are that one and those behind it
-pub next-pair : (window : List Placed) (j : ℕ) → j < length window →
-    drop j (pairs_of window) ≡ (get_or window j no_segment).pair ∷ drop (j + 1) (pairs_of window)
-next-pair [] j less = absurd (omega (arith, less))
-next-pair (s ∷ ss) zero less = refl
-next-pair (s ∷ ss) (suc j) less =
-    let long : suc j < suc (length ss) = less in
-    let one : suc j + 1 ≡ suc (j + 1) = omega arith in
-    next-pair ss j (omega (arith, long))
-    ∙ ap (λ (k : ℕ). (get_or ss j no_segment).pair ∷ drop k (s.pair ∷ pairs_of ss)) (sym one)
 
 -- and so are the bytes of one more
 pub next-bytes : (window : List Placed) (j : ℕ) → j < length window →

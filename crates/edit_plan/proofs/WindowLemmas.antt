@@ -7,13 +7,14 @@ use Rattle.tree_model.specs.declared.entry.Pair.{Pair}
 use Rattle.tree_model.specs.declared.entry.Placed.{Placed}
 use Rattle.tree_model.specs.Range.{pairs_of}
 use Rattle.tree_model.specs.Tree.{bytes_of, page_count}
+use Rattle.tree_model.proofs.RangeLemmas.{no_segment, next-pair}
 use Rattle.layout_model.specs.Parts.{count_begun, count_ended, left_of, right_of, without_pages}
 use Rattle.content_laws.specs.Spelling.{HaveBytes}
 use Rattle.window_laws.proofs.CountLemmas.{count_begun-start}
 use Rattle.edit_parts.specs.declared.piece.Piece.TheVariants.{Given}
 use Rattle.edit_plan.specs.declared.back.Back.{Back}
 use Rattle.edit_plan.specs.Spots.{IsBack, IsSpot, head_in, head_piece}
-use Rattle.edit_plan.proofs.SpotLemmas.{AtInside, at-border, at-inside, next-bytes, next-pair, no_segment, pairs-length}
+use Rattle.edit_plan.proofs.SpotLemmas.{AtInside, at-border, at-inside, next-bytes, pairs-length}
 use Rattle.edit_plan.proofs.SpotLemmas.{spot-begun, spot-behind, spot-left, spot-within}
 
 -- ---- the way to the spot

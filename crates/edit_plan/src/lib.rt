@@ -22,4 +22,4 @@ pub use law::{
     a_window_is_tight, parts_of_a_window_plan_the_object, pieces_of_entries_are_numbered,
 };
 pub use planning::plan;
-pub use window::can_plan;
+pub use window::{can_plan, page_count};

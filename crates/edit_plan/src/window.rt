@@ -71,7 +71,7 @@ fn is_entry(geometry: &Geometry, pair: Pair) -> bool
     pair.page as u64 + page_count(geometry.page(), pair.bytes) <= geometry.pages() as u64
 }
 
-/// The pages that so many bytes fill.
+/// The pages that so many bytes fill, where one has `page` bytes.
 pub fn page_count(page: u32, bytes: u64) -> u64
     requires some { 0 < page }
     requires few { bytes < 2 ^ 63 }

@@ -3,12 +3,10 @@ use Rattle.std.proofs.Common.{◌≡◌, ℕ, ◌<◌, ◌≤◌, List, [], ◌�
 use Rattle.std.specs.Prelude.{IsTrue}
 use Rattle.std.specs.List.{AllByRecursion}
 use Rattle.eos_ops.specs.declared.command.Command.{Command}
-use Rattle.eos_ops.specs.declared.command.Command.TheVariants as command
 use Rattle.eos_ops.specs.declared.limits.TheConstants.{SESSIONS}
 use Rattle.eos_ops.specs.declared.plain.Plain.{Plain}
 use Rattle.eos_ops.specs.declared.reply.Reply.{Reply}
 use Rattle.eos_ops.specs.declared.reply.Reply.TheVariants as reply
-use Rattle.eos_ops.specs.Memory.{MayTakeMemory}
 use Rattle.history.specs.Event.{Event, deed_of}
 use Rattle.machine.specs.Machine.{Machine, IsSession, fresh}
 use Rattle.machine.specs.Next.{next}
@@ -19,6 +17,7 @@ use Rattle.machine.proofs.Replying.{Replies-answers}
 use Rattle.script_run.specs.Served.{AreSteps, HasRunLines}
 use Rattle.script_run.proofs.HeadlineLemmas.{Leads, serial_run}
 use Rattle.script_text.specs.Failing.{BringsBytes}
+use Rattle.script_text.proofs.MemoryLemmas.{brings-memory}
 use Rattle.eos_cli.specs.Headline.{HasSerialRun}
 use Rattle.eos_cli.specs.Step.{IsPlainStep, is_plain_reply}
 use Rattle.eos_cli.proofs.PlainLemmas.{plain_reply}
@@ -36,21 +35,6 @@ step-served m w m' s c r same low high seats step =
       plain = plain_reply m s c r own.reply;
       state = own.state;
     }
-
--- a command that brings bytes may want memory for them
-brings-memory : (c : Command) → BringsBytes c → MayTakeMemory c
-brings-memory (command.Append o p) h = tt
-brings-memory (command.Insert o at p) h = tt
-brings-memory (command.Replace o at p) h = tt
-brings-memory command.Begin h = absurd h
-brings-memory (command.Create o t) h = absurd h
-brings-memory (command.Destroy o) h = absurd h
-brings-memory (command.Length o) h = absurd h
-brings-memory (command.Read o at n) h = absurd h
-brings-memory (command.Delete o at n) h = absurd h
-brings-memory command.Commit h = absurd h
-brings-memory command.Abort h = absurd h
-brings-memory command.Status h = absurd h
 
 -- a command for whose bytes there was no memory: nothing has changed
 pub step-unread : (m : Machine) (s : ℕ) (c : Command) → 0 < s → s ≤ SESSIONS → length m.seats ≡ SESSIONS →

@@ -1,6 +1,6 @@
 -- What the ranges say: the test and the record agree, and how large the numbers get.
-use Rattle.std.proofs.Common.{◌≡◌, ℕ, ◌+◌, ◌*◌, ◌/◌, ◌≤◌, true, IsTrue, arith, ◌⊎◌, ap, ◌∙◌, mul_left_comm}
-use Rattle.std.proofs.lemmas.Bool.Decides.{nat_tests}
+use Rattle.std.proofs.Common.{◌≡◌, ℕ, ◌+◌, ◌*◌, ◌/◌, ◌^◌, ◌<◌, ◌≤◌, true, IsTrue, arith, ◌⊎◌, inl, inr, ap, ◌∙◌, mul_left_comm}
+use Rattle.std.proofs.lemmas.Bool.Decides.{leb_tells, nat_tests}
 use Rattle.std.proofs.lemmas.Nat.{mul-le}
 use Rattle.std.proofs.Math.Pow.{pow_mono}
 use Rattle.geometry_model.specs.Numbers.{Numbers, IsInRange, is_in_range, is_page_size, space_pages, pages, objects, fan_out}
@@ -85,3 +85,19 @@ objects-bytes n h =
     let bytes : n.catalog * n.page ≡ 16 * (n.catalog * (n.page / 16)) = ap (λ p. n.catalog * p) parts
     ∙ mul_left_comm n.catalog 16 (n.page / 16) in
     omega (arith, bytes)
+
+-- a space whose bitmap takes at most half of a page has an order of at most 14
+pub order-at_most : (order page : ℕ) → 2 ^ order ≤ 4 * page → page ≤ 4096 → order ≤ 14
+order-at_most order page fits small =
+    elim (leb_tells order 14) as (λ _. order ≤ 14) [
+      | inl low ↦ low.1
+      | inr high ↦ absurd (let over : 15 ≤ order = omega (arith, high.1) in
+          let more : 2 ^ 15 ≤ 2 ^ order = pow_mono over in omega (arith, more))
+    ]
+
+pub order-high : (n : Numbers) → IsInRange n → n.order ≤ 14
+order-high n h = order-at_most n.order n.page h.order_high (page_size-high n.page h.page_size)
+
+-- a page has bytes
+pub page-some : (n : Numbers) → IsInRange n → 0 < n.page
+page-some n range = let low = page_size-low n.page range.page_size in omega (arith, low)

@@ -26,6 +26,7 @@ use Rattle.image_check.specs.declared.failure.CheckFail.TheVariants.{BadTree as 
 use Rattle.image_check.specs.Owners.{KeptWalk, IsMarked, is_unused, owner_at}
 use Rattle.image_check.specs.Verdicts.{Judged, Shows, check_head, refusal_named}
 use Rattle.image_check.proofs.JudgedLemmas.{Judged-broken, Judged-check, Judged-stop, Judged-then, Judged-uncheck}
+use Rattle.base_laws.proofs.NumberLaws.{one_page}
 
 -- ---- a page that is held
 
@@ -33,18 +34,9 @@ pub nobody-held : (n : Numbers) (held : Held) (kept : KeptWalk) (page : ℕ) →
     IsMarked n held kept → owner_at kept page ≡ Nobody → has held page ≡ true
 nobody-held n held kept page data_page marked nobody = marked.used page data_page ∙ ap (λ (x : Owner). not (is_unused x)) nobody
 
-pub held-run : (held : Held) (page : ℕ) → has held page ≡ true → HoldsRun held page 1
-held-run held page is q low high =
-    let same : page ≡ q = omega (arith, low, high) in
-    subst (λ (k : ℕ). IsTrue (has held k)) same is
-
--- a run of one page is that page
-pub one-page : (n size : ℕ) → n ≡ size → 1 ≤ size → n / size ≡ 1
-one-page n size same some = ap (λ (k : ℕ). k / size) same ∙ div_self {n = size} some
-
 pub read-one : (held : Held) (page n size : ℕ) → n ≡ size → 1 ≤ size → run_bytes (bytes_on held) page (n / size) ≡ bytes_on held page
 read-one held page n size same some =
-    ap (run_bytes (bytes_on held) page) (one-page n size same some) ∙ append-nil (bytes_on held page)
+    ap (run_bytes (bytes_on held) page) (one_page n size same some) ∙ append-nil (bytes_on held page)
 
 -- its bytes are as many as a page has
 pub sized-on : (held : Held) (page size : ℕ) → has held page ≡ true → IfSome (page_at held page) (λ p. length p ≡ size) →

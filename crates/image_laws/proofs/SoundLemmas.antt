@@ -28,6 +28,7 @@ use Rattle.image_model.specs.Catalog.{is_entry, is_root, is_threshold}
 use Rattle.image_model.specs.Image.{IsImage, HasTree, image_pages, free_of_space, object_entry, moment_in, database_in}
 use Rattle.image_laws.proofs.RestLemmas.{at_rest, AreGood, rest-committed, rest-sound, rest-tails, rest-locked, rest-free}
 use Rattle.image_laws.proofs.UsedLemmas.{place-cases, versions-unused}
+use Rattle.base_laws.proofs.NumberLaws.{eights}
 
 -- a list made from one that is made
 map-twice : {A B C : Type 0} (f : B → C) (g : A → B) (xs : List A) → map f (map g xs) ≡ map (λ x. f (g x)) xs
@@ -132,16 +133,6 @@ image-locked bytes version n page = ap (is_locked n page) (moment-shown n versio
 
 -- ---- the free pages
 
--- the data pages of a space fill whole bytes
-eighths : (order : ℕ) → 4 ≤ order → 8 * (2 ^ order / 8) ≡ 2 ^ order
-eighths (suc (suc (suc (suc k)))) low =
-    let big : 2 ^ (suc (suc (suc (suc k)))) ≡ 16 * 2 ^ k = omega arith in
-    omega (arith, big)
-eighths zero low = absurd (omega (arith, low))
-eighths (suc zero) low = absurd (omega (arith, low))
-eighths (suc (suc zero)) low = absurd (omega (arith, low))
-eighths (suc (suc (suc zero))) low = absurd (omega (arith, low))
-
 -- a directory has a test of each page of its space
 pub free-length : (bytes : List ℕ) (version : ℕ) (n : Numbers) → IsImage bytes version n → (s : ℕ) → s < n.spaces →
     length (free_of_space n bytes s) ≡ space_pages n
@@ -159,7 +150,7 @@ free-length bytes version n image s store =
     let all = image.size in
     let low = page_size-low n.page range.page_size in
     let high = range.order_high in
-    let whole = eighths n.order range.order_low in
+    let whole = eights n.order range.order_low in
     omega (arith, bits, cut, behind, sized, left, rows, all, low, high, whole)
 
 pub image-free : (bytes : List ℕ) (version : ℕ) (n : Numbers) → IsImage bytes version n → (s : ℕ) → s < n.spaces →

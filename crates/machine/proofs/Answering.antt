@@ -275,3 +275,8 @@ usable_object m s o active none =
   where
     below : nat_le (length m.slots) o ≡ false → o < length m.slots
     below h = grind (arith, nat_tests)
+
+-- nothing refuses a status
+pub unrefused : (m : Machine) (s : ℕ) → refused m s Status ≡ None
+unfolding refused
+unrefused m s = elim (cases_Bool (is_active m s)) [ inl active ↦ rw active refl | inr idle ↦ rw idle refl ]

@@ -5,20 +5,10 @@ use Rattle.std.proofs.lemmas.Fmt.{decimal_injective}
 use Rattle.std.proofs.lemmas.Bool.{cases_lt}
 use Rattle.std.proofs.Math.Pow.{pow_mono}
 use Rattle.geometry_model.specs.Numbers.{Numbers, IsInRange}
-use Rattle.geometry_model.proofs.NumberLaws.{page_size-high}
+use Rattle.geometry_model.proofs.NumberLaws.{page_size-high, order-high}
 use Rattle.script_text.specs.Words.{number_of}
 use Rattle.script_text.proofs.NumberLemmas.{number_of-decimal, number_of-some}
 use Rattle.model_cli.specs.Words.{number_words}
-
--- the order of a store is 14 at most
-pub order-high : (n : Numbers) → IsInRange n → n.order ≤ 14
-order-high n h = elim (cases_lt 14 n.order) [
-  | inl above ↦
-      let over : 15 ≤ n.order = omega (arith, above) in
-      let big : 2 ^ 15 ≤ 2 ^ n.order = pow_mono over in
-      absurd (omega (arith, big, h.order_high, page_size-high n.page h.page_size))
-  | inr within ↦ within
-]
 
 pub pages-high : (k : ℕ) → k ≤ 16 → 2 ^ k ≤ 65536
 pages-high k h = pow_mono h

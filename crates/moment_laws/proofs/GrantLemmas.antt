@@ -421,7 +421,8 @@ tests_in-page n s test at within =
     ∙ ap (λ (k : ℕ). test (data_page n s k)) (get_or-range_with_len 0 (space_pages n) at 0 within ∙ omega arith)
 
 -- the tests of all spaces
-pub tests-space : (n : Numbers) (tests : ℕ → List Bool) (s : ℕ) → s < n.spaces → space_at (map tests (range_with_len 0 n.spaces)) s ≡ tests s
+pub tests-space : (n : Numbers) (tests : ℕ → List Bool) (s : ℕ) → s < n.spaces →
+    space_at (map tests (range_with_len 0 n.spaces)) s ≡ tests s
 tests-space n tests s within =
     let long : s < length (range_with_len 0 n.spaces) = omega (arith, length-range_with_len 0 n.spaces, within) in
     get_or-map tests (range_with_len 0 n.spaces) s 0 [] long ∙ ap tests (get_or-range_with_len 0 n.spaces s 0 within ∙ omega arith)
@@ -459,3 +460,14 @@ took-free n moment runs left took page =
           let once = took.once page in
           omega (arith, same, once)
     ]
+
+-- a page of a run counts for it
+pub inside-counts : (page : ℕ) (run : Extent) → run.page ≤ page → page < run.page + run.pages → 0 < covers page run
+inside-counts page run from to = elim (covers-cases page run) [
+  | inl inside ↦ omega (arith, inside.0)
+  | inr outside ↦
+      elim outside.1 [
+        | inl before ↦ absurd (omega (arith, before, from))
+        | inr behind ↦ absurd (omega (arith, behind, to))
+      ]
+]

@@ -14,12 +14,12 @@ use Rattle.content_laws.specs.Spelling.{IsThere}
 use Rattle.content_laws.proofs.SpellingLemmas.{content-length}
 use Rattle.moment_model.specs.Version.{covers, uses, segment_run, version_uses, version_bytes}
 use Rattle.span_store.specs.Held.{Held, AllSized, bytes_on, has, page_at}
-use Rattle.space_directory.proofs.PageLaws.{in_run-inside}
 use Rattle.tree_pages.specs.Entry.{Entry, Present}
 use Rattle.tree_pages.specs.Levels.{levels_at, version_at, plain_at}
 use Rattle.tree_pages.proofs.TreeLemmas.{entry-segments, levels-entries, tree-counts}
 use Rattle.object_body.specs.Lengths.{length_of}
 use Rattle.object_body.specs.Stored.{StandsOn, entry_length}
+use Rattle.change_laws.proofs.ThereLemmas.{all-there}
 
 -- a held page has the store's bytes
 held-page : (size : ℕ) (page : Option (List ℕ)) → IfSome page (λ bytes. length bytes ≡ size) → is_some page ≡ true →
@@ -31,23 +31,6 @@ pub sized-page : (tells : Bool) (size : ℕ) (held : Held) (page : ℕ) → AllS
     length (bytes_on held page) ≡ size
 sized-page tells size held page sized tell there = held-page size (page_at held page) (sized tell page) there
 
--- a page of a run counts for it
-pub inside-counts : (page : ℕ) (run : Extent) → run.page ≤ page → page < run.page + run.pages → 0 < covers page run
-inside-counts page run from to =
-    let one : covers page run ≡ 1 = ap (λ (b : Bool). if b then 1 else 0) (in_run-inside run.page run.pages page from to) in
-    omega (arith, one)
-
--- where each page of these segments has the store's bytes, they are there
-all-there : (at : Pages) (size : ℕ) (entries : List Pair) → ((q : ℕ) → 0 < uses q (map (segment_run size) entries) → length (at q) ≡ size) →
-    AllByRecursion (IsThere at size) entries
-all-there at size [] whole = tt
-all-there at size (p ∷ ps) whole = (
-  λ k below. whole (p.page + k)
-      (let inside = inside-counts (p.page + k) (segment_run size p) (omega arith) (omega (arith, below)) in
-      omega (arith, inside, sum_by-cons (covers (p.page + k)) (segment_run size p) (map (segment_run size) ps))),
-  all-there at size ps (λ q some. whole q (omega (arith, some, sum_by-cons (covers q) (segment_run size p) (map (segment_run size) ps)))),
-)
-
 -- the pages that a version uses have the store's bytes
 abbrev pub AreFull : Numbers → Pages → Entry → Type 0
 AreFull n at entry = (q : ℕ) → 0 < version_uses n q (version_at at entry) → length (at q) ≡ n.page
@@ -57,9 +40,6 @@ pub entry-there : (n : Numbers) (at : Pages) (present : Present) → AreFull n a
 entry-there n at present full =
     all-there at n.page (entries_of at present.root.height present.root.page)
     (λ q some. full q (let same = entry-segments n q at present in omega (arith, some, same)))
-
-pub some-bytes : (n : Numbers) → IsInRange n → 0 < n.page
-some-bytes n range = omega (arith, range.threshold_low, range.threshold_high, range.order_high)
 
 -- the bytes that an entry shows are as many as its root counts, and as its version has
 pub record HasLength (n : Numbers) (at : Pages) (entry : Entry) : Type 0 where

@@ -12,6 +12,7 @@ use Rattle.tree_model.specs.declared.entry.Placed.{Placed}
 use Rattle.tree_model.specs.Range.{pairs_of}
 use Rattle.tree_model.specs.Tree.{IsSegment, page_count}
 use Rattle.tree_model.proofs.PageCountLaws.{count-enough, count-none}
+use Rattle.tree_model.proofs.RangeLemmas.{no_segment}
 use Rattle.layout_model.specs.declared.change.Change.{Change}
 use Rattle.layout_model.specs.declared.extent.Extent.{Extent}
 use Rattle.layout_model.specs.declared.request.Request.{Request}
@@ -22,7 +23,7 @@ use Rattle.edit_parts.specs.declared.part.Part.TheVariants.{Keep, Make}
 use Rattle.edit_parts.specs.declared.piece.Piece.{Piece}
 use Rattle.edit_parts.specs.Parts.{layout_part}
 use Rattle.edit_parts.specs.Pieces.{pieces_bytes}
-use Rattle.edit_plan.proofs.SpotLemmas.{no_segment, pairs-length}
+use Rattle.edit_plan.proofs.SpotLemmas.{pairs-length}
 use Rattle.object_plan.specs.declared.sides.Sides.{Sides}
 use Rattle.object_plan.specs.Sides.{count_sides, trimmed}
 use Rattle.object_plan.specs.Asked.{only_one, with_wish}

@@ -7,7 +7,7 @@ use Rattle.std.proofs.lemmas.List.{length-drop, length-take}
 use Rattle.std.proofs.lemmas.List.Sums.{sum_by-take-le}
 use Rattle.base_laws.proofs.ListLaws.{all-map}
 use Rattle.geometry_model.specs.Numbers.{Numbers, IsInRange}
-use Rattle.geometry_model.proofs.NumberLaws.{space_pages-low}
+use Rattle.geometry_model.proofs.NumberLaws.{space_pages-low, page-some}
 use Rattle.tree_model.specs.declared.entry.Pair.{Pair}
 use Rattle.tree_model.specs.declared.entry.Placed.{Placed}
 use Rattle.tree_model.specs.Range.{pairs_of, start_of}
@@ -29,7 +29,6 @@ use Rattle.window_laws.specs.Searches.{end_of}
 use Rattle.window_laws.proofs.StretchLemmas.{bytes_of-next}
 use Rattle.edit_parts.specs.declared.part.Part.{Part}
 use Rattle.edit_parts.specs.Parts.{layout_part, pieces_of}
-use Rattle.edit_plan.proofs.EntryLemmas.{page-some}
 use Rattle.edit_plan.proofs.SpotLemmas.{pairs-length}
 use Rattle.part_bytes.specs.Gathering.{CanGather}
 use Rattle.seg_bytes.specs.Segments.{HoldsBytes}

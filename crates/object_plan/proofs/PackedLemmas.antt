@@ -8,12 +8,13 @@ use Rattle.std.proofs.Math.Seq.{take-length}
 use Rattle.std.proofs.lemmas.List.{append-nil, drop_all, length-drop, length-map, length-take}
 use Rattle.base_laws.proofs.ListLaws.{all-map}
 use Rattle.geometry_model.specs.Numbers.{Numbers, IsInRange, space_pages}
-use Rattle.geometry_model.proofs.NumberLaws.{space_pages-low}
+use Rattle.geometry_model.proofs.NumberLaws.{space_pages-low, page-some}
 use Rattle.tree_model.specs.declared.entry.Pair.{Pair}
 use Rattle.tree_model.specs.declared.entry.Placed.{Placed}
 use Rattle.tree_model.specs.Range.{pairs_of, start_of}
 use Rattle.tree_model.specs.Tree.{Pages, bytes_of, page_count}
 use Rattle.tree_model.proofs.PageCountLaws.{count-enough}
+use Rattle.tree_model.proofs.RangeLemmas.{no_segment, next-pair}
 use Rattle.layout_model.specs.declared.change.Change.{Change}
 use Rattle.layout_model.specs.declared.extent.Extent.{Extent}
 use Rattle.layout_model.specs.declared.fit.Fit.{Fit}
@@ -37,8 +38,8 @@ use Rattle.edit_parts.specs.declared.part.Part as edit
 use Rattle.edit_parts.specs.Parts.{layout_part, parts_content, pieces_of}
 use Rattle.edit_parts.specs.Pieces.{IsFrom}
 use Rattle.edit_plan.specs.Planned.{IsPlan, IsTight}
-use Rattle.edit_plan.proofs.EntryLemmas.{page-some, space-few}
-use Rattle.edit_plan.proofs.SpotLemmas.{next-pair, no_segment, pairs-length}
+use Rattle.edit_plan.proofs.EntryLemmas.{space-few}
+use Rattle.edit_plan.proofs.SpotLemmas.{pairs-length}
 use Rattle.object_plan.specs.declared.planned.Planned.{Planned}
 use Rattle.object_plan.specs.declared.sides.Sides.{Sides}
 use Rattle.object_plan.specs.Asked.{AreCounted, wanted_by}

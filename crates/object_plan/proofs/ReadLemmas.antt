@@ -13,7 +13,7 @@ use Rattle.tree_model.specs.Tree.{bytes_of}
 use Rattle.layout_model.specs.Parts.{count_begun, count_ended}
 use Rattle.content_laws.specs.Spelling.{HaveBytes}
 use Rattle.content_laws.proofs.SideLemmas.{count_ended-behind}
-use Rattle.edit_plan.proofs.SpotLemmas.{no_segment, pairs-length}
+use Rattle.edit_plan.proofs.SpotLemmas.{pairs-length}
 use Rattle.window_laws.specs.Searches.{end_of, first_end, last_start, met_around, met_before, met_behind, with_neighbours}
 use Rattle.window_laws.specs.Window.{window_at, window_from, window_start}
 use Rattle.window_laws.proofs.SearchLemmas.{searches-find}
@@ -25,10 +25,11 @@ use Rattle.span_store.specs.Held.{Held, bytes_on}
 use Rattle.tree_model.specs.declared.tree.Root.{Root}
 use Rattle.tree_model.specs.Node.{room_of}
 use Rattle.tree_model.specs.Tree.{IsTree, Pages}
+use Rattle.tree_model.proofs.RangeLemmas.{no_segment}
 use Rattle.tree_read.specs.declared.failure.TreeFail.{TreeFail}
 use Rattle.tree_read.specs.declared.failure.TreeFail.TheVariants.{Fault, Memory}
-use Rattle.tree_read.specs.Search.{AsksSearch, KeepsNodes}
-use Rattle.object_plan.specs.Reading.{ReadsNodes, found_where, place_before, place_behind}
+use Rattle.tree_read.specs.Search.{AsksSearch, KeepsNodes, ReadsNodes}
+use Rattle.object_plan.specs.Reading.{found_where, place_before, place_behind}
 
 -- ---- where the neighbours are looked for
 
@@ -169,10 +170,6 @@ behind-inside end bytes met = go (nat_lt (last_start met) end) (nat_lt (end_of m
     go true true is = ltb-true (end_of met) bytes is
 
 -- ---- one search after another
-
-pub reads-none : (told : Bool) (size : ℕ) (at : Pages) (cache : KeptNodes) (m : Meter) → KeepsNodes told size at cache →
-    ReadsNodes told size at cache m m
-reads-none told size at cache m nodes = record { nodes = nodes; uses = record { used = IsUsed-none m; written = refl } }
 
 pub reads-then : (told : Bool) (at : Pages) (c d : KeptNodes) (old mid new : Meter) → ReadsNodes told old.page at c old mid →
     ReadsNodes told mid.page at d mid new → ReadsNodes told old.page at d old new

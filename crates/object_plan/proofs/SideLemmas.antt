@@ -9,6 +9,7 @@ use Rattle.tree_model.specs.declared.entry.Pair.{Pair}
 use Rattle.tree_model.specs.declared.entry.Placed.{Placed}
 use Rattle.tree_model.specs.Range.{pairs_of, start_of}
 use Rattle.tree_model.specs.Tree.{bytes_of}
+use Rattle.tree_model.proofs.RangeLemmas.{no_segment}
 use Rattle.layout_model.specs.declared.change.Change.{Change}
 use Rattle.layout_model.specs.declared.part.Part.{Part}
 use Rattle.layout_model.specs.Parts.{count_begun, count_ended, one_after, one_before}
@@ -18,7 +19,7 @@ use Rattle.content_laws.proofs.PlanLemmas.{first_of_list, last_of}
 use Rattle.moment_model.specs.Moment.{count_true}
 use Rattle.window_laws.proofs.CountLemmas.{count_begun-start}
 use Rattle.edit_plan.specs.Planned.{IsTight}
-use Rattle.edit_plan.proofs.SpotLemmas.{next-bytes, no_segment, pairs-length, spot-within}
+use Rattle.edit_plan.proofs.SpotLemmas.{next-bytes, pairs-length, spot-within}
 use Rattle.object_plan.specs.Sides.{count_sides, sides_of, trimmed}
 use Rattle.object_plan.specs.Window.{change_on}
 

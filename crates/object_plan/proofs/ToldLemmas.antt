@@ -6,6 +6,7 @@ use Rattle.std.specs.List.{AllByRecursion}
 use Rattle.std.proofs.lemmas.List.{drop-append-le, drop-drop, drop-take, length-drop, length-take, take-take}
 use Rattle.std.proofs.Math.Seq.{drop-append-add}
 use Rattle.geometry_model.specs.Numbers.{Numbers, IsInRange}
+use Rattle.geometry_model.proofs.NumberLaws.{page-some}
 use Rattle.tree_model.specs.declared.entry.Pair.{Pair}
 use Rattle.tree_model.specs.declared.entry.Placed.{Placed}
 use Rattle.tree_model.specs.Content.{content}
@@ -28,7 +29,6 @@ use Rattle.window_laws.proofs.CountLemmas.{ended-bytes}
 use Rattle.window_laws.proofs.SearchLemmas.{begun-reach, segments-found}
 use Rattle.window_laws.proofs.StretchLemmas.{bytes_of-next, window-border}
 use Rattle.window_laws.proofs.WindowLemmas.{planned-on_window, wanted-on_window}
-use Rattle.edit_plan.proofs.EntryLemmas.{page-some}
 use Rattle.edit_parts.specs.Parts.{parts_content}
 use Rattle.object_plan.specs.declared.planned.Planned.{Planned}
 use Rattle.object_plan.specs.declared.working_tree.WorkingTree.{WorkingTree}

@@ -7,6 +7,7 @@ use Rattle.std.proofs.lemmas.Bool.{eqb-false, eqb-true}
 use Rattle.std.proofs.lemmas.List.{take_all}
 use Rattle.std.proofs.lemmas.List.Sums.{sum_by-cons, sum_by-take-le}
 use Rattle.base_laws.proofs.ListLaws.{all-map}
+use Rattle.base_laws.proofs.OptionLaws.{within-size}
 use Rattle.geometry_model.specs.Numbers.{Numbers}
 use Rattle.geometry_model.proofs.PageLaws.{IsInSpace-below}
 use Rattle.tree_model.specs.declared.entry.Pair.{Pair}
@@ -22,8 +23,8 @@ use Rattle.content_laws.specs.Spelling.{HaveBytes, IsThere}
 use Rattle.change_laws.specs.Tail.{IsTail}
 use Rattle.change_laws.proofs.PartLemmas.{segments-have}
 use Rattle.change_laws.proofs.SizeLemmas.{all-drop, all-take}
+use Rattle.change_laws.proofs.ThereLemmas.{all-there}
 use Rattle.moment_model.specs.Version.{covers, segment_run, uses}
-use Rattle.moment_laws.proofs.GrantLemmas.{covers-cases}
 use Rattle.span_store.specs.Held.{Held, bytes_on, has, page_at}
 use Rattle.tree_pages.specs.Stored.{AreWithin}
 use Rattle.tree_pages.proofs.TreeLemmas.{tree-counts, tree-levels}
@@ -39,6 +40,7 @@ use Rattle.object_plan.specs.Reading.{IsWindowOf}
 use Rattle.object_plan.specs.WorkingTree.{CanChange, IsToldWorking, entries_on, tree_on}
 use Rattle.object_plan.specs.Window.{CanPlanOn, IsUsable}
 use Rattle.object_plan.proofs.MakeLemmas.{some_segments}
+use Rattle.moment_laws.proofs.GrantLemmas.{inside-counts}
 
 -- ---- pages that are held
 
@@ -46,34 +48,6 @@ sized_at : (size : ℕ) (page : Option (List ℕ)) → is_some page ≡ true →
     length (unwrap_or page []) ≡ size
 sized_at size None there sized = absurd (cc)
 sized_at size (Some bytes) there sized = sized
-
-sized_most : (size : ℕ) (page : Option (List ℕ)) → IfSome page (λ bytes. length bytes ≡ size) → length (unwrap_or page []) ≤ size
-sized_most size None sized = let none : length {A = ℕ} [] ≡ 0 = refl in omega (arith, none)
-sized_most size (Some bytes) sized = omega (arith, sized)
-
-covered : (first count q : ℕ) → first ≤ q → q < first + count → covers q (record { page = first; pages = count }) ≡ 1
-covered first count q from to =
-    elim (covers-cases q (record { page = first; pages = count })) [
-      | inl inside ↦ inside.0
-      | inr outside ↦
-          elim outside.1 [
-            | inl before ↦ absurd (omega (arith, before, from))
-            | inr behind ↦ absurd (omega (arith, behind, to))
-          ]
-    ]
-
-all_there : (at : Pages) (size : ℕ) (entries : List Pair) →
-    ((q : ℕ) → 0 < uses q (map (segment_run size) entries) → length (at q) ≡ size) → AllByRecursion (IsThere at size) entries
-all_there at size [] whole = tt
-all_there at size (p ∷ ps) whole = (
-  λ k below.
-      let all = sum_by-cons (covers (p.page + k)) (segment_run size p) (map (segment_run size) ps) in
-      let one = covered p.page (page_count size p.bytes) (p.page + k) (omega arith) (omega (arith, below)) in
-      whole (p.page + k) (omega (arith, all, one)),
-  all_there at size ps (λ q some.
-      let all = sum_by-cons (covers q) (segment_run size p) (map (segment_run size) ps) in
-      whole q (omega (arith, all, some))),
-)
 
 all_held : (n : Numbers) (held : Held) (entries : List Pair) → AllByRecursion (IsSegment n) entries →
     ((q : ℕ) → 0 < uses q (map (segment_run n.page) entries) → IsTrue (has held q)) → AllByRecursion (IsHeldEntry n held) entries
@@ -83,7 +57,7 @@ all_held n held (p ∷ ps) segments here = (
     segment = segments.0;
     pages = λ q from to.
         let all = sum_by-cons (covers q) (segment_run n.page p) (map (segment_run n.page) ps) in
-        let one = covered p.page (page_count n.page p.bytes) q from to in
+        let one = inside-counts q (segment_run n.page p) from to in
         here q (omega (arith, all, one));
   },
   all_held n held ps segments.1 (λ q some.
@@ -105,7 +79,7 @@ pub told-entries : (n : Numbers) (held : Held) (w : WorkingTree) → ((q : ℕ) 
 told-entries n held w sized told =
     let at = bytes_on held in
     let tree = tree_on at w in
-    let within : AreWithin n.page at = λ q. sized_most n.page (page_at held q) (sized q) in
+    let within : AreWithin n.page at = λ q. within-size n.page (page_at held q) (sized q) in
     let levels = tree-levels n at w.root (entries_on at w) within told.tree in
     let counts = tree-counts n at w.root (entries_on at w) told.tree in
     let here : (q : ℕ) → 0 < uses q (map (segment_run n.page) (tree_entries tree)) → IsTrue (has held q) = λ q some.
@@ -114,7 +88,7 @@ told-entries n held w sized told =
       listed = levels.listed;
       counted = ap bytes_of levels.listed ∙ counts;
       have = segments-have n (tree_entries tree) told.good.segments;
-      there = all_there at n.page (tree_entries tree) (λ q some. sized_at n.page (page_at held q) (here q some) (sized q));
+      there = all-there at n.page (tree_entries tree) (λ q some. sized_at n.page (page_at held q) (here q some) (sized q));
       entries = all_held n held (tree_entries tree) told.good.segments here;
     }
 

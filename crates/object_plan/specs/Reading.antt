@@ -35,9 +35,3 @@ place_behind end bytes met =
 abbrev pub found_where : List Pair → Option ℕ → List Placed
 found_where entries None = []
 found_where entries (Some at) = in_range at (at + 1) 0 entries
-
--- nodes were read: those that are kept are right, and no page was written
-pub record ReadsNodes (told : Bool) (size : ℕ) (at : Pages) (after : KeptNodes)
-    (old new : Meter) : Type 0 where
-  pub nodes : KeepsNodes told size at after
-  pub uses : Uses old new

@@ -14,6 +14,7 @@ ghost use Rattle.object_plan.specs.Asked.{AreCounted, just, only_one, wanted_by,
 
 use append_grow::{Tail, ask, fit};
 use edit_parts::Part;
+use edit_plan::page_count;
 use layout_model::{Change, Extent, Fit, Request};
 use page_port::Geometry;
 use std::alloc::{AllocError, Global};
@@ -185,13 +186,4 @@ fn wish(requests: &mut Vec<Request>, last: u32, limit: u32)
         want: ask(need, last, limit),
         need,
     };
-}
-
-/// The pages that so many bytes fill.
-pub fn page_count(page: u32, bytes: u64) -> u64
-    requires some { 0 < page }
-    requires few { bytes < 2 ^ 63 }
-    ensures { result ≡ page_count page bytes }
-{
-    (bytes + (page as u64 - 1)) / page as u64
 }

@@ -12,8 +12,7 @@ ghost use Rattle.edit_plan.specs.Planned.{IsTight};
 ghost use Rattle.object_plan.specs.Planned.{IsHeldEntry};
 ghost use Rattle.object_plan.specs.Window.{IsUsable};
 
-use crate::asking::page_count;
-use edit_plan::can_plan;
+use edit_plan::{can_plan, page_count};
 use layout_model::Change;
 use page_port::{Geometry, Span};
 use span_store::Holdings;

@@ -9,9 +9,9 @@ ghost use Rattle.tree_model.specs.Range.{pairs_of, placed, start_of};
 ghost use Rattle.tree_model.specs.Tree.{IsTree, entries_of};
 ghost use Rattle.content_laws.specs.Spelling.{HaveBytes};
 ghost use Rattle.span_store.specs.Held.{bytes_on};
-ghost use Rattle.tree_read.specs.Search.{AsksSearch, EndsInside};
+ghost use Rattle.tree_read.specs.Search.{AsksSearch, EndsInside, ReadsNodes};
 ghost use Rattle.window_laws.specs.Searches.{end_of, last_start};
-ghost use Rattle.object_plan.specs.Reading.{IsWindowOf, ReadsNodes, found_where, place_before};
+ghost use Rattle.object_plan.specs.Reading.{IsWindowOf, found_where, place_before};
 ghost use Rattle.object_plan.specs.Reading.{place_behind};
 
 use page_cache::Cache;

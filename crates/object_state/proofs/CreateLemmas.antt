@@ -163,17 +163,17 @@ created-moves v threshold frame views rest absent told home =
           };
     }
 
-never-fault : (outcome : Outcome) → ◌≡◌ {A = Result Outcome EditFail} (Ok outcome) (Err Fault) → ⊥
+pub never-fault : (outcome : Outcome) → ◌≡◌ {A = Result Outcome EditFail} (Ok outcome) (Err Fault) → ⊥
 never-fault outcome same = absurd cc
 
-writes-none : (n : Numbers) (old new : ObjectSlot) (edit : Edit) → TreeMayWrite n old edit new 0
+pub writes-none : (n : Numbers) (old new : ObjectSlot) (edit : Edit) → TreeMayWrite n old edit new 0
 writes-none n old new edit = record { added = 0; few = omega arith; most = omega arith }
 
 -- an absent object is made
 pub create-absent : (tells : Bool) (v : TreeView) (threshold : Option ℕ) → 0 < v.numbers.page → v.working ≡ None → v.spare ≡ None →
     KeepsTreeBody tells (created_view (given_threshold v.numbers threshold) v) →
     MakesTreeEdit tells (Create threshold) Done v (created_view (given_threshold v.numbers threshold) v)
-create-absent tells v threshold some absent no_spare kept = λ start rest trace meter none. record {
+create-absent tells v threshold some absent no_spare kept = λ rest trace none start meter. record {
   outcome = sym (ap (λ (e : Entry). outcome_of (Create threshold) (entry_length e)) absent);
   form = record {
     numbers = refl;
@@ -209,7 +209,7 @@ create-absent tells v threshold some absent no_spare kept = λ start rest trace 
 -- one that is there stays
 pub create-there : (tells : Bool) (v : TreeView) (present : Present) (threshold : Option ℕ) → 0 < v.numbers.page →
     v.working ≡ Some present → KeepsTreeBody tells v → MakesTreeEdit tells (Create threshold) Exists v v
-create-there tells v present threshold some there kept = λ start rest trace meter none. record {
+create-there tells v present threshold some there kept = λ rest trace none start meter. record {
   outcome = sym (ap (λ (e : Entry). outcome_of (Create threshold) (entry_length e)) there);
   form = record {
     numbers = refl;

@@ -30,12 +30,14 @@ use Rattle.object_body.specs.Form.{HaveLengths}
 use Rattle.object_state.specs.Edits.{tree_stage}
 use Rattle.object_state.specs.Keeps.{KeepsTreeBody, IsToldTree, IsMarked, in_spare}
 use Rattle.object_body.specs.Stored.{StandsOn}
-use Rattle.object_state.specs.Ends.{AreLetGo, LetsGo, LeavesNodes, IsLeft, none_marked, or_page}
+use Rattle.give_back.specs.Giving.{AreLetGo, LetsGo, LeavesNodes, IsLeft, Ways, gives, none_marked, or_page}
+use Rattle.object_state.specs.Ends.{unlocks}
 use Rattle.object_state.proofs.EndTables.{Counts, spare-test, never-both, both-never, settle_gives, settled-free, settled-locked}
 use Rattle.object_state.proofs.EndTables.{settled-has, settled-stays, undo_gives, undone-free, undone-locked, undone-has}
 use Rattle.object_state.proofs.EndTables.{undone-stays}
-use Rattle.object_state.proofs.LeftLemmas.{left-bytes, left-has, left-held, left-stays, left-on_data, leaves-then}
-use Rattle.object_state.proofs.LetGoLemmas.{let_go-as, let_go-then, or-none}
+use Rattle.give_back.proofs.LeftLemmas.{left-bytes, left-has, left-held, left-stays, leaves-then}
+use Rattle.object_state.proofs.LeftLemmas.{left-on_data}
+use Rattle.give_back.proofs.LetGoLemmas.{gives-apart, gives-both, let_go-as, let_go-then, never-locked, or-none, or_ways}
 use Rattle.object_state.proofs.TiedLemmas.{tree-tied, rests-now}
 
 -- ---- the common part: an object at rest in one of its entries, on the pages that are left
@@ -64,7 +66,7 @@ no-marks held marked none = record {
   borders = λ page there differ. absurd (differ (none (suc page) ∙ sym (none page)));
 }
 
-stands-stay : (n : Numbers) (at now : Pages) (entry : Entry) → StaysOn n (version_at at entry) at now → StandsOn n at entry →
+pub stands-stay : (n : Numbers) (at now : Pages) (entry : Entry) → StaysOn n (version_at at entry) at now → StandsOn n at entry →
     StandsOn n now entry
 stands-stay n at now None stays stands = tt
 stands-stay n at now (Some present) stays stands =
@@ -176,16 +178,16 @@ abbrev pub settled_view : TreeView → Held → KeptNodes → PageSetView → Pa
 settled_view v held cache fresh locked = at_rest v v.working held cache fresh locked
 
 -- what an end did: to the pages held and the nodes kept, to the spaces, and to the two sets
-pub record HasEnded (tells : Bool) (v : TreeView) (gone unlocked : ℕ → Bool) (held : Held) (cache : KeptNodes)
+pub record HasEnded (tells : Bool) (v : TreeView) (gone : ℕ → Bool) (ways : Ways) (held : Held) (cache : KeptNodes)
     (fresh locked : PageSetView) (old new : Rest) (before after : Option (List SpaceEvent)) : Type 0 where
   pub leaves : LeavesNodes tells v.numbers.page gone v.held held v.cache cache
-  pub went : LetsGo v.numbers gone unlocked old new before after
+  pub went : LetsGo v.numbers ways old new before after
   pub no_fresh : IsBare fresh
   pub no_locked : IsBare locked
 
 pub settled-keeps : (tells : Bool) (v : TreeView) (held : Held) (cache : KeptNodes) (fresh locked : PageSetView) (old new : Rest)
     (before after : Option (List SpaceEvent)) → KeepsTreeBody tells v →
-    HasEnded tells v (settle_gone v) none_marked held cache fresh locked old new before after →
+    HasEnded tells v (settle_gone v) (gives (settle_gone v)) held cache fresh locked old new before after →
     KeepsTreeBody tells (settled_view v held cache fresh locked)
 settled-keeps tells v held cache fresh locked old new before after kept ended =
     rested-keeps tells v v.working held cache fresh locked (settle_gone v) kept ended.leaves ended.no_fresh ended.no_locked
@@ -198,7 +200,7 @@ settled-keeps tells v held cache fresh locked old new before after kept ended =
     (settle-rested v held told left))
 
 settle-moves : (v : TreeView) (frame : Frame) (views : List SpaceView) (rest : Rest) → IsToldTree v.numbers v →
-    AreLetGo v.numbers frame (settle_gone v) none_marked views rest →
+    AreLetGo v.numbers frame (gives (settle_gone v)) views rest →
     MovesTold v.numbers frame views (tree_slot v) (settled (tree_slot v)) rest
 settle-moves v frame views rest told all = record {
   after = all.after;
@@ -218,7 +220,7 @@ settle-moves v frame views rest told all = record {
 
 pub settled-end : (tells : Bool) (v : TreeView) (held : Held) (cache : KeptNodes) (fresh locked : PageSetView) (old new : Rest)
     (before after : Option (List SpaceEvent)) → 0 < v.numbers.page → KeepsTreeBody tells v →
-    HasEnded tells v (settle_gone v) none_marked held cache fresh locked old new before after →
+    HasEnded tells v (settle_gone v) (gives (settle_gone v)) held cache fresh locked old new before after →
     IsBodyEnd tells HaveLengths (settled_form (tree_form v)) (settled_contents (tree_contents v)) (tree_stage v old before)
     (tree_stage (settled_view v held cache fresh locked) new after)
 settled-end tells v held cache fresh locked old new before after some kept ended = record {
@@ -233,6 +235,10 @@ settled-end tells v held cache fresh locked old new before after some kept ended
 }
 
 -- ---- undone
+
+-- the fresh pages are given, and the locked ones unlocked
+abbrev pub undo_ways : TreeView → Ways
+undo_ways v = record { given = in_set v.fresh; unlocked = in_set v.locked; locked = none_marked }
 
 undo-gone : (v : TreeView) (page : ℕ) → IsToldTree v.numbers v →
     in_set v.fresh page ≡ undo_gives (committed_uses v.numbers page (tree_slot v)) (working_uses v.numbers page (tree_slot v))
@@ -271,7 +277,7 @@ undone_view v held cache fresh locked = at_rest v v.committed held cache fresh l
 
 pub undone-keeps : (tells : Bool) (v : TreeView) (held : Held) (cache : KeptNodes) (fresh locked : PageSetView) (old new : Rest)
     (before after : Option (List SpaceEvent)) → KeepsTreeBody tells v →
-    HasEnded tells v (in_set v.fresh) (in_set v.locked) held cache fresh locked old new before after →
+    HasEnded tells v (in_set v.fresh) (undo_ways v) held cache fresh locked old new before after →
     KeepsTreeBody tells (undone_view v held cache fresh locked)
 undone-keeps tells v held cache fresh locked old new before after kept ended =
     rested-keeps tells v v.committed held cache fresh locked (in_set v.fresh) kept ended.leaves ended.no_fresh ended.no_locked
@@ -284,7 +290,7 @@ undone-keeps tells v held cache fresh locked old new before after kept ended =
     (undo-rested v held told left))
 
 undo-moves : (v : TreeView) (frame : Frame) (views : List SpaceView) (rest : Rest) → IsToldTree v.numbers v →
-    AreLetGo v.numbers frame (in_set v.fresh) (in_set v.locked) views rest →
+    AreLetGo v.numbers frame (undo_ways v) views rest →
     MovesTold v.numbers frame views (tree_slot v) (undone (tree_slot v)) rest
 undo-moves v frame views rest told all = record {
   after = all.after;
@@ -306,7 +312,7 @@ undo-moves v frame views rest told all = record {
 
 pub undone-end : (tells : Bool) (v : TreeView) (held : Held) (cache : KeptNodes) (fresh locked : PageSetView) (old new : Rest)
     (before after : Option (List SpaceEvent)) → 0 < v.numbers.page → KeepsTreeBody tells v →
-    HasEnded tells v (in_set v.fresh) (in_set v.locked) held cache fresh locked old new before after →
+    HasEnded tells v (in_set v.fresh) (undo_ways v) held cache fresh locked old new before after →
     IsBodyEnd tells HaveLengths (undone_form (tree_form v)) (undone_contents (tree_contents v)) (tree_stage v old before)
     (tree_stage (undone_view v held cache fresh locked) new after)
 undone-end tells v held cache fresh locked old new before after some kept ended = record {
@@ -323,9 +329,9 @@ undone-end tells v held cache fresh locked old new before after some kept ended 
 -- ---- the calls of an end, one after the other
 
 -- the spaces after a call are ready for the next
-pub ready-next : (n : Numbers) (given unlocked : ℕ → Bool) (old new : Rest) (before after : Option (List SpaceEvent)) →
-    IsReady n old → LetsGo n given unlocked old new before after → IsReady n new
-ready-next n given unlocked old new before after ready went = record {
+pub ready-next : (n : Numbers) (ways : Ways) (old new : Rest) (before after : Option (List SpaceEvent)) →
+    IsReady n old → LetsGo n ways old new before after → IsReady n new
+ready-next n ways old new before after ready went = record {
   store = subst (IsStore n) (sym went.rest.frame) ready.store;
   none = went.rest.entered;
 }
@@ -352,17 +358,17 @@ locked-beside tells v page kept locked = go (in_spare v.spare page) refl
 pub settle-ended : (tells : Bool) (v : TreeView) (held held2 : Held) (cache cache2 : KeptNodes) (fresh locked : PageSetView)
     (old middle new : Rest) (before between after : Option (List SpaceEvent)) →
     LeavesNodes tells v.numbers.page (in_spare v.spare) v.held held v.cache cache →
-    LetsGo v.numbers (in_spare v.spare) none_marked old middle before between →
+    LetsGo v.numbers (gives (in_spare v.spare)) old middle before between →
     LeavesNodes tells v.numbers.page (in_set v.locked) held held2 cache cache2 →
-    LetsGo v.numbers (in_set v.locked) none_marked middle new between after → IsBare fresh → IsBare locked →
-    HasEnded tells v (settle_gone v) none_marked held2 cache2 fresh locked old new before after
+    LetsGo v.numbers (gives (in_set v.locked)) middle new between after → IsBare fresh → IsBare locked →
+    HasEnded tells v (settle_gone v) (gives (settle_gone v)) held2 cache2 fresh locked old new before after
 settle-ended tells v held held2 cache cache2 fresh locked old middle new before between after left went left2 went2 no_fresh no_locked =
     record {
       leaves = leaves-then tells v.numbers.page (in_spare v.spare) (in_set v.locked) v.held held held2 v.cache cache cache2 left left2;
-      went = let_go-as v.numbers (settle_gone v) (or_page none_marked none_marked) (settle_gone v) none_marked old new before after
-          (λ q. refl) (λ q. refl)
-          (let_go-then v.numbers (in_spare v.spare) none_marked (in_set v.locked) none_marked old middle new before between after went
-          went2);
+      went = let_go-as v.numbers (or_ways (gives (in_spare v.spare)) (gives (in_set v.locked))) (gives (settle_gone v)) old new before after
+          (gives-both (in_spare v.spare) (in_set v.locked) (settle_gone v) (λ q. refl))
+          (let_go-then v.numbers (gives (in_spare v.spare)) (gives (in_set v.locked)) old middle new before between after
+          (gives-apart (in_spare v.spare) (in_set v.locked)) went went2);
       no_fresh = no_fresh;
       no_locked = no_locked;
     }
@@ -370,15 +376,15 @@ settle-ended tells v held held2 cache cache2 fresh locked old middle new before 
 pub undo-ended : (tells : Bool) (v : TreeView) (held : Held) (cache : KeptNodes) (fresh locked : PageSetView)
     (old middle new : Rest) (before between after : Option (List SpaceEvent)) →
     LeavesNodes tells v.numbers.page (in_set v.fresh) v.held held v.cache cache →
-    LetsGo v.numbers (in_set v.fresh) none_marked old middle before between →
-    LetsGo v.numbers none_marked (in_set v.locked) middle new between after → IsBare fresh → IsBare locked →
-    HasEnded tells v (in_set v.fresh) (in_set v.locked) held cache fresh locked old new before after
+    LetsGo v.numbers (gives (in_set v.fresh)) old middle before between →
+    LetsGo v.numbers (unlocks (in_set v.locked)) middle new between after → IsBare fresh → IsBare locked →
+    HasEnded tells v (in_set v.fresh) (undo_ways v) held cache fresh locked old new before after
 undo-ended tells v held cache fresh locked old middle new before between after left went went2 no_fresh no_locked = record {
   leaves = left;
-  went = let_go-as v.numbers (or_page (in_set v.fresh) none_marked) (or_page none_marked (in_set v.locked)) (in_set v.fresh)
-      (in_set v.locked)
-      old new before after (λ q. sym (or-none (in_set v.fresh q))) (λ q. refl)
-      (let_go-then v.numbers (in_set v.fresh) none_marked none_marked (in_set v.locked) old middle new before between after went went2);
+  went = let_go-as v.numbers (or_ways (gives (in_set v.fresh)) (unlocks (in_set v.locked))) (undo_ways v) old new before after
+      (record { given = λ q. sym (or-none (in_set v.fresh q)); unlocked = λ q. refl; locked = λ q. refl })
+      (let_go-then v.numbers (gives (in_set v.fresh)) (unlocks (in_set v.locked)) old middle new before between after
+      (never-locked (gives (in_set v.fresh)) (unlocks (in_set v.locked)) (λ q. refl) (λ q. refl)) went went2);
   no_fresh = no_fresh;
   no_locked = no_locked;
 }

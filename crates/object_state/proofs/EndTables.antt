@@ -8,18 +8,16 @@ use Rattle.layout_model.specs.declared.extent.Extent.{Extent}
 use Rattle.moment_model.specs.Version.{spare_uses}
 use Rattle.page_cache.specs.Kept.{is_on_run}
 use Rattle.object_state.specs.Keeps.{in_spare}
+use Rattle.base_laws.proofs.NumberLaws.{some-of}
 
 -- tests of counts
-not-none : (k : ℕ) → nat_eq k 0 ≡ not (nat_lt 0 k)
+pub not-none : (k : ℕ) → nat_eq k 0 ≡ not (nat_lt 0 k)
 not-none k = grind (arith, nat_tests)
 
-some-of : (a b : ℕ) → nat_lt 0 (a + b) ≡ (nat_lt 0 a || nat_lt 0 b)
-some-of a b = grind (arith, nat_tests)
-
-none-test : (k : ℕ) → k ≡ 0 → nat_lt 0 k ≡ false
+pub none-test : (k : ℕ) → k ≡ 0 → nat_lt 0 k ≡ false
 none-test k none = grind (arith, nat_tests, none)
 
-some-count : (k : ℕ) → nat_lt 0 k ≡ true → 0 < k
+pub some-count : (k : ℕ) → nat_lt 0 k ≡ true → 0 < k
 some-count k some = grind (arith, nat_tests, some)
 
 pub never-both : (k : ℕ) → (nat_lt 0 (k + 0) && nat_eq k 0) ≡ false

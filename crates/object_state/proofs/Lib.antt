@@ -1,4 +1,3 @@
-pub mod RunLemmas
 pub mod LetGoLemmas
 pub mod LeftLemmas
 pub mod MarkLemmas
@@ -11,3 +10,14 @@ pub mod ReadLemmas
 pub mod LookLemmas
 pub mod TreeReadLemmas
 pub mod CreateLemmas
+pub mod BorderLemmas
+pub mod DropLemmas
+pub mod BesideTables
+pub mod BesideLemmas
+pub mod GatherLemmas
+pub mod StayLemmas
+pub mod MadeLemmas
+pub mod CutLemmas
+pub mod RunSetLemmas
+pub mod GrownLemmas
+pub mod RefusedLemmas

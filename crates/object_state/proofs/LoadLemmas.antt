@@ -1,7 +1,6 @@
 -- An object that is made of the pages of a tree, and what it keeps of them.
 use Rattle.std.proofs.Common.{◌≡◌, ℕ, suc, ◌≤◌, Bool, true, ◌||◌, IsTrue, List, [], ◌∷◌, length, Option, Some, None}
 use Rattle.std.proofs.Common.{IfSome, refl, sym, ap, subst, arith, ◌∙◌, inl, inr, ◌⊎◌, nat_eq, nat_le}
-use Rattle.std.specs.Prelude.{unwrap_or}
 use Rattle.std.specs.Map.{lookup}
 use Rattle.std.specs.List.{AllByRecursion}
 use Rattle.std.proofs.lemmas.Bool.{cases_lt, false≢true}
@@ -30,6 +29,7 @@ use Rattle.object_body.specs.Stored.{StandsOn}
 use Rattle.object_state.proofs.EndTables.{never-both, both-never}
 use Rattle.object_body.proofs.HeldTreeLemmas.{twice-some}
 use Rattle.object_state.proofs.EndLemmas.{IsBare, no-marks}
+use Rattle.base_laws.proofs.OptionLaws.{within-size}
 
 -- entries of which each may stand behind the one before it have no two small neighbours
 one-high : (least a b : ℕ) → (nat_le least a || nat_le least b) ≡ true → (least ≤ a) ⊎ (least ≤ b)
@@ -50,11 +50,6 @@ packed-of : (n : Numbers) (threshold : ℕ) (entries : List Pair) → AllFit (ma
     Packed n.page threshold entries
 packed-of n threshold [] all = tt
 packed-of n threshold (p ∷ ps) all = packed-from n threshold 0 None p ps all
-
--- no page has more bytes than the store's pages
-within-size : (size : ℕ) (page : Option (List ℕ)) → IfSome page (λ bytes. length bytes ≡ size) → length (unwrap_or page []) ≤ size
-within-size size None sized = omega arith
-within-size size (Some bytes) sized = omega (arith, sized)
 
 pub pages-within : (tells : Bool) (size : ℕ) (held : Held) → AllSized tells size held → IsTrue tells → AreWithin size (bytes_on held)
 pages-within tells size held sized tell = λ q. within-size size (page_at held q) (sized tell q)

@@ -1,5 +1,5 @@
 -- Marked pages, which stand in spans of their own: their first run, and what is marked without it.
-use Rattle.std.proofs.Common.{◌≡◌, ℕ, suc, ◌+◌, ◌-◌, ◌^◌, ◌<◌, ◌≤◌, Bool, true, false, not, ◌&&◌, ◌||◌, IsTrue, Some, refl}
+use Rattle.std.proofs.Common.{◌≡◌, ℕ, suc, ◌+◌, ◌-◌, ◌<◌, ◌≤◌, Bool, true, false, not, ◌&&◌, ◌||◌, IsTrue, Some, refl}
 use Rattle.std.proofs.Common.{sym, ap, subst, arith, ◌∙◌, inl, inr, ◌⊎◌}
 use Rattle.std.proofs.lemmas.Bool.{cases_lt, false≢true}
 use Rattle.geometry_model.specs.Numbers.{Numbers}
@@ -7,13 +7,14 @@ use Rattle.geometry_model.specs.Pages.{is_data_page}
 use Rattle.layout_model.specs.declared.extent.Extent.{Extent}
 use Rattle.page_set.specs.Members.{IsFirstRun, IsWithoutRun}
 use Rattle.space_directory.proofs.PageLaws.{in_run-inside, in_run-below, in_run-above}
-use Rattle.span_store.specs.Held.{Held, IsEnd, begins, has}
+use Rattle.span_store.specs.Held.{Held, begins, has}
 use Rattle.page_cache.specs.Kept.{is_on_run}
-use Rattle.object_state.specs.Keeps.{AreOnData, IsMarked, IsWholeRun, in_spare}
-use Rattle.object_state.specs.Ends.{IsLeft, or_page}
-use Rattle.object_state.proofs.LeftLemmas.{left-held, left-stays}
-use Rattle.object_state.proofs.LetGoLemmas.{or-none}
-use Rattle.object_state.proofs.RunLemmas.{data-place}
+use Rattle.object_state.specs.Keeps.{AreOnData, IsMarked, in_spare}
+use Rattle.give_back.specs.Giving.{IsWholeRun, IsLeft, or_page}
+use Rattle.give_back.proofs.LeftLemmas.{left-held, left-stays}
+use Rattle.give_back.proofs.LetGoLemmas.{or-none}
+use Rattle.moment_laws.specs.Granting.{LiesInSpace}
+use Rattle.give_back.proofs.RunLemmas.{data-place, data-run}
 
 -- page 0 is no data page
 pub some-page : (n : Numbers) (page : ℕ) → IsTrue (is_data_page n page) → 1 ≤ page
@@ -158,10 +159,8 @@ spare-run run some = record {
   ends = in_run-above run.page run.pages (run.page + run.pages) (omega arith);
 }
 
--- their numbers are numbers
-pub spare-fits : (held : Held) (run : Extent) (end : ℕ) → 1 ≤ run.pages → IsMarked held (in_spare (Some run)) → IsEnd held end →
-    end < 2 ^ 32 → run.page + run.pages < 2 ^ 32
-spare-fits held run end some is is_end below =
-    let there = in_run-inside run.page run.pages (run.page + run.pages - 1) (omega (arith, some)) (omega (arith, some)) in
-    let last = is_end.behind (run.page + run.pages - 1) (is.within (run.page + run.pages - 1) there) in
-    omega (arith, last, below, some)
+-- a run of held data pages lies in one space
+pub whole-lies : (n : Numbers) (held : Held) (run : Extent) → AreOnData n held → IsWholeRun held run.page run.pages → LiesInSpace n run
+whole-lies n held run on_data whole =
+    let here = data-place n run.page (on_data run.page (whole.holds run.page (omega arith) (omega (arith, whole.some)))) in
+    (here.0, data-run n run.page run.pages here.0 here.1 here.2 whole.some (λ q from to. on_data q (whole.holds q from to)))

@@ -7,7 +7,6 @@ use Rattle.std.proofs.lemmas.Bool.{cases_lt, lt-ltb, le-ltb}
 use Rattle.std.proofs.lemmas.List.{append-nil, drop-append-le, length-drop, take-append-le, take_all}
 use Rattle.std.proofs.Math.Seq.{drop-nil}
 use Rattle.seg_bytes.proofs.Runs.{take-joined, drop-joined}
-use Rattle.seg_bytes.proofs.Reading.{no_segment}
 use Rattle.tree_model.specs.declared.entry.Pair.{Pair}
 use Rattle.tree_model.specs.declared.entry.Placed.{Placed}
 use Rattle.tree_model.specs.Tree.{Pages}
@@ -19,6 +18,7 @@ use Rattle.geometry_model.specs.Numbers.{Numbers}
 use Rattle.tree_model.specs.declared.tree.Root.{Root}
 use Rattle.tree_model.specs.Node.{room_of}
 use Rattle.tree_model.specs.Tree.{IsSegment, IsTree}
+use Rattle.tree_model.proofs.RangeLemmas.{no_segment}
 use Rattle.layout_model.specs.Pack.{Packed}
 use Rattle.content_laws.specs.Spelling.{HaveBytes}
 use Rattle.content_laws.proofs.SpellingLemmas.{segment-length}
@@ -31,7 +31,8 @@ use Rattle.tree_read.proofs.LevelLemmas.{IsLevel-top}
 use Rattle.tree_read.proofs.CacheLemmas.{length-nodes-found}
 use Rattle.read_cost_laws.proofs.TouchedLemmas.{read-cheap}
 use Rattle.object_state.specs.Reads.{IsHeldSegment, tree_at}
-use Rattle.object_body.proofs.HeldTreeLemmas.{inside-counts, sized-page}
+use Rattle.object_body.proofs.HeldTreeLemmas.{sized-page}
+use Rattle.moment_laws.proofs.GrantLemmas.{inside-counts}
 
 -- each segment has all its bytes, and at least one
 pub record IsWhole (at : Pages) (size : ℕ) (p : Pair) : Type 0 where

@@ -1,5 +1,5 @@
 -- What an object in a tree of segments keeps to.
-use Rattle.std.specs.Prelude.{◌≡◌, ℕ, suc, ◌+◌, ◌≤◌, Bool, false, ◌&&◌, IsTrue, nat_eq}
+use Rattle.std.specs.Prelude.{◌≡◌, ℕ, suc, ◌≤◌, Bool, false, ◌&&◌, IsTrue, nat_eq}
 use Rattle.std.specs.Prelude.{nat_lt, Option, Some, None, IfSome}
 use Rattle.geometry_model.specs.Numbers.{Numbers}
 use Rattle.geometry_model.specs.Pages.{is_data_page}
@@ -9,7 +9,7 @@ use Rattle.moment_model.specs.Moment.{ObjectSlot, committed_uses, working_uses, 
 use Rattle.moment_laws.specs.ByObject.{IsSoundSlot}
 use Rattle.change_laws.specs.Tail.{IsTail}
 use Rattle.page_set.specs.Words.{in_set}
-use Rattle.span_store.specs.Held.{Held, AllSized, HoldsRun, begins, bytes_on, has}
+use Rattle.span_store.specs.Held.{Held, AllSized, begins, bytes_on, has}
 use Rattle.page_cache.specs.Kept.{is_on_run}
 use Rattle.tree_read.specs.Search.{KeepsNodes}
 use Rattle.object_body.specs.Moves.{locks}
@@ -32,13 +32,6 @@ pub record IsMarked (held : Held) (marked : ℕ → Bool) : Type 0 where
   pub within : (page : ℕ) → IsTrue (marked page) → IsTrue (has held page)
   pub borders : (page : ℕ) → IsTrue (has held (suc page)) →
       (marked (suc page) ≡ marked page → ⊥) → IsTrue (begins held (suc page))
-
--- the pages of a run are held, in spans of their own
-pub record IsWholeRun (held : Held) (first pages : ℕ) : Type 0 where
-  pub some : 1 ≤ pages
-  pub holds : HoldsRun held first pages
-  pub from : IsTrue (begins held first)
-  pub to : IsTrue (has held (first + pages)) → IsTrue (begins held (first + pages))
 
 -- each held page is a data page of the store
 abbrev pub AreOnData : Numbers → Held → Type 0

@@ -5,3 +5,10 @@ pub mod Ends
 pub mod Kind
 pub mod Reads
 pub mod Edits
+pub mod Drops
+pub mod Beside
+pub mod Idle
+pub mod Made
+pub mod Cuts
+pub mod Runs
+pub mod Laws

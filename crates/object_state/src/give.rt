@@ -8,19 +8,20 @@ ghost use Rattle.page_set.specs.Words.{in_set};
 ghost use Rattle.span_store.specs.Held.{AllSized};
 ghost use Rattle.page_cache.specs.Kept.{is_on_run};
 ghost use Rattle.object_body.specs.Places.{IsReady};
-ghost use Rattle.object_state.specs.Keeps.{AreOnData, IsMarked, IsWholeRun, in_spare};
-ghost use Rattle.object_state.specs.Ends.{LeavesNodes, LeavesSized, LetsGo, none_marked};
+ghost use Rattle.object_state.specs.Keeps.{AreOnData, IsMarked, in_spare};
+ghost use Rattle.give_back.specs.Giving.{IsWholeRun, LeavesNodes, LeavesSized, LetsGo, gives};
+ghost use Rattle.object_state.specs.Ends.{unlocks};
 
+use give_back::give_run;
 use layout_model::Extent;
 use page_cache::Cache;
 use page_port::{Geometry, Span};
 use page_set::PageSet;
-use space_directory::Segment;
 use span_store::Holdings;
-use superdirectory::{Hints, Latches, release, unlock_run};
+use superdirectory::{Hints, Latches, unlock_run};
 
 /// The space of a data page.
-fn space_of(geometry: &Geometry, page: u32) -> u16
+pub fn space_of(geometry: &Geometry, page: u32) -> u16
     requires { IsTrue (is_data_page geometry.now page) }
     ensures { (at : ℕ) × IsPlace geometry.now page result at }
 {
@@ -28,59 +29,6 @@ fn space_of(geometry: &Geometry, page: u32) -> u16
         Some((space, _)) => space,
         None => unreachable!(),
     }
-}
-
-/// Gives the spans of a run back to its space.
-fn give_spans<S: Span, L: Latches<S = S>>(
-    geometry: &Geometry,
-    held: &mut Holdings<S>,
-    latches: &mut L,
-    turn: &mut L::Turn,
-    first: u32,
-    pages: u32,
-)
-    requires ready { IsReady geometry.now (L.rest latches.old) }
-    requires on_data { AreOnData geometry.now held.old }
-    requires whole { IsWholeRun held.old first pages }
-    requires within { first + pages < 2 ^ 32 }
-    requires sized { AllSized S.tells geometry.now.page held.old }
-    ensures left { LeavesSized S.tells geometry.now.page (is_on_run first pages)
-        held.old held.new }
-    ensures given { LetsGo geometry.now (is_on_run first pages) none_marked
-        (L.rest latches.old) (L.rest latches.new) (L.trace latches.old) (L.trace latches.new) }
-{
-    let space = space_of(geometry, first);
-    let end = first + pages;
-    let mut at = first;
-    while at < end {
-        let span = held.remove(at);
-        at += span.pages();
-        release(latches, turn, Segment { space, span });
-    }
-}
-
-/// Gives the pages of a run back to its space, and forgets the nodes on them.
-fn give_run<S: Span, L: Latches<S = S>>(
-    geometry: &Geometry,
-    held: &mut Holdings<S>,
-    cache: &mut Cache,
-    latches: &mut L,
-    turn: &mut L::Turn,
-    first: u32,
-    pages: u32,
-)
-    requires ready { IsReady geometry.now (L.rest latches.old) }
-    requires on_data { AreOnData geometry.now held.old }
-    requires whole { IsWholeRun held.old first pages }
-    requires within { first + pages < 2 ^ 32 }
-    requires sized { AllSized S.tells geometry.now.page held.old }
-    ensures left { LeavesNodes S.tells geometry.now.page (is_on_run first pages)
-        held.old held.new cache.old cache.new }
-    ensures given { LetsGo geometry.now (is_on_run first pages) none_marked
-        (L.rest latches.old) (L.rest latches.new) (L.trace latches.old) (L.trace latches.new) }
-{
-    give_spans(geometry, held, latches, turn, first, pages);
-    cache.forget_run(first, pages);
 }
 
 /// Gives the spare pages back to their space.
@@ -99,13 +47,11 @@ pub fn give_spare<S: Span, L: Latches<S = S>>(
     requires sized { AllSized S.tells geometry.now.page held.old }
     ensures left { LeavesNodes S.tells geometry.now.page (in_spare spare)
         held.old held.new cache.old cache.new }
-    ensures given { LetsGo geometry.now (in_spare spare) none_marked
+    ensures given { LetsGo geometry.now (gives (in_spare spare))
         (L.rest latches.old) (L.rest latches.new) (L.trace latches.old) (L.trace latches.new) }
 {
-    // The spare pages are held, so their numbers lie below this one.
-    let _end = held.end();
     if let Some(run) = spare {
-        give_run(geometry, held, cache, latches, turn, run.page, run.pages);
+        give_run(geometry, held, cache, latches, turn, run);
         return;
     }
 }
@@ -125,11 +71,15 @@ pub fn give_marked<S: Span, L: Latches<S = S>>(
     requires sized { AllSized S.tells geometry.now.page held.old }
     ensures left { LeavesNodes S.tells geometry.now.page (in_set marked.old)
         held.old held.new cache.old cache.new }
-    ensures given { LetsGo geometry.now (in_set marked.old) none_marked
+    ensures given { LetsGo geometry.now (gives (in_set marked.old))
         (L.rest latches.old) (L.rest latches.new) (L.trace latches.old) (L.trace latches.new) }
 {
     while let Some(run) = marked.pop_first_run() {
-        give_run(geometry, held, cache, latches, turn, run.first, run.pages);
+        let whole = Extent {
+            page: run.first,
+            pages: run.pages,
+        };
+        give_run(geometry, held, cache, latches, turn, whole);
     }
 }
 
@@ -143,7 +93,7 @@ pub fn unlock_marked<S: Span, L: Latches<S = S>>(
     requires ready { IsReady geometry.now (L.rest latches.old) }
     requires on_data { (page : ℕ) → IsTrue (in_set marked.old page) →
         IsTrue (is_data_page geometry.now page) }
-    ensures unlocked { LetsGo geometry.now none_marked (in_set marked.old)
+    ensures unlocked { LetsGo geometry.now (unlocks (in_set marked.old))
         (L.rest latches.old) (L.rest latches.new) (L.trace latches.old) (L.trace latches.new) }
 {
     while let Some(run) = marked.pop_first_run() {

@@ -3,12 +3,20 @@
 #![tactic(auto)]
 
 mod creating;
+mod cutting;
 mod fits;
+mod gathering;
 mod give;
 mod kept;
+mod laws;
+mod letting_go;
+mod outcome;
+mod preparing;
 mod reading;
+mod run_sets;
 #[cfg(test)]
 mod tests;
 mod tree_body;
 
+pub use laws::trees_are_a_kind_of_body;
 pub use tree_body::TreeBody;

@@ -11,12 +11,12 @@ use crate::TreeBody;
 use crate::fits::fits;
 use eos_ops::Outcome;
 use file_port::{FileBay, FilePort, FileSpan};
-use object_body::LookFail;
+use object_body::{EditFail, LookFail};
 use page_port::{Bay, Geometry, Port, Span};
-use space_directory::Space;
+use space_directory::{Counts, Space};
 use span_store::Holdings;
 use std::alloc::{AllocError, Global};
-use superdirectory::Solo;
+use superdirectory::{Latches, Solo};
 use tree_model::{Pair, Root};
 
 /// The root of an object of five bytes: its node is on page 3, and its segment on page 4.
@@ -166,8 +166,14 @@ fn an_object_hands_out_what_it_is_made_of(rt: HostRuntime) -> Result<(), AllocEr
     Ok(())
 }
 
-/// The space of the store, all of whose pages are free.
-fn free_space(alloc: Global, pages: FileSpan) -> Result<Solo<FileSpan>, AllocError>
+/// The space of the store: so many of its pages are free, and of the first eight those of these
+/// bits.
+fn space_of(
+    alloc: Global,
+    pages: FileSpan,
+    free: u8,
+    first: u8,
+) -> Result<Solo<FileSpan>, AllocError>
     requires first { pages.first ≡ 3 }
     requires count { pages.count ≡ 16 }
     ensures { IfOk result (λ solo. IsReady
@@ -175,8 +181,10 @@ fn free_space(alloc: Global, pages: FileSpan) -> Result<Solo<FileSpan>, AllocErr
 {
     let geometry = numbers()?;
     let mut page = [0; 256];
-    page[..12].copy_from_slice(b"DIR1\0\0\0\0\0\0\0\x10");
-    page[16..18].fill(255);
+    page[..4].copy_from_slice(b"DIR1");
+    page[11] = free;
+    page[16] = first;
+    page[17] = 255;
     let Ok(read) = Space::read_page(alloc, &geometry, 0, &page, pages) else {
         return Err(AllocError);
     };
@@ -195,7 +203,7 @@ fn made_twice(
 ) -> Result<(Outcome, Outcome, u16, Option<u64>), AllocError> {
     let alloc = rt.alloc();
     let (_port, pages) = opened(rt, "object_state_made.img")?;
-    let mut latches = free_space(alloc, pages)?;
+    let mut latches = space_of(alloc, pages, 16, 255)?;
     let geometry = numbers()?;
     let mut held = Some(Holdings::new(alloc));
     let made = TreeBody::<FilePort>::take_pages(alloc, &geometry, 1, None, &mut held);
@@ -218,6 +226,73 @@ fn an_object_that_is_made_is_there_after_a_commit_alone(rt: HostRuntime) -> Resu
     for (commits, length) in [(true, Some(0)), (false, None)] {
         let want = (Outcome::Done, Outcome::Exists, 2, length);
         assert_eq!(rt; made_twice(&rt, commits)?, want, "{commits}");
+    }
+    Ok(())
+}
+
+/// How many pages of the space are free, and how many locked.
+fn counts(latches: &mut Solo<FileSpan>) -> (u32, u32)
+    requires ready { IsReady (record {
+      page = 256;
+      order = 4;
+      spaces = 1;
+      catalog = 1;
+      threshold =
+          2;
+    }) (rest_of latches.old) }
+    ensures ready { IsReady (record {
+      page = 256;
+      order = 4;
+      spaces = 1;
+      catalog = 1;
+      threshold =
+          2;
+    }) (rest_of latches.new) }
+{
+    let space = latches.enter(&mut (), 0);
+    let Counts { free, locked } = space.counts();
+    latches.leave(0, space);
+    (free, locked)
+}
+
+/// What a destroy of the object answers, the free and the locked pages then and after the end, and
+/// its length after the end.
+fn destroyed(
+    rt: &HostRuntime,
+    commits: bool,
+) -> Result<
+    (
+        Result<Outcome, EditFail>,
+        (u32, u32),
+        (u32, u32),
+        Option<u64>,
+    ),
+    AllocError,
+> {
+    const PATH: &str = "object_state_destroyed.img";
+    let alloc = rt.alloc();
+    let (_port, held) = written(rt, PATH)?;
+    let (_port, pages) = opened(rt, PATH)?;
+    let mut latches = space_of(alloc, pages, 14, 0x3f)?;
+    let mut body = loaded(alloc, held)?;
+    let answer = body.destroy(alloc, &mut latches, &mut ());
+    let between = counts(&mut latches);
+    if commits {
+        body.settle(&mut latches, &mut ());
+    } else {
+        body.undo(&mut latches, &mut ());
+    }
+    let after = counts(&mut latches);
+    Ok((answer, between, after, body.length()))
+}
+
+#[test]
+fn the_pages_of_a_destroyed_object_are_locked_until_its_end(
+    rt: HostRuntime,
+) -> Result<(), AllocError> {
+    for (commits, free, length) in [(true, 16, None), (false, 14, Some(5))] {
+        let want = (Ok(Outcome::Done), (14, 2), (free, 0), length);
+        assert_eq!(rt; destroyed(&rt, commits)?, want, "{commits}");
     }
     Ok(())
 }

@@ -2,28 +2,34 @@
 //! transaction.
 
 ghost use Rattle.std.specs.Prelude.{◌≡◌, Option, Some, None, IsTrue, IsSome, IsNone, IfSome, true};
-ghost use Rattle.eos_ops.specs.declared.edit.Edit.TheVariants.{Create};
+ghost use Rattle.eos_ops.specs.declared.edit.Edit.TheVariants.{Create, Destroy};
+ghost use Rattle.eos_ops.specs.declared.outcome.Outcome.TheVariants.{Done};
 ghost use Rattle.span_store.specs.Calls.{KeepsPages};
 ghost use Rattle.object_body.specs.Calls.{IsBodyEnd, IsBodyRead, IsWithin};
 ghost use Rattle.object_body.specs.Form.{AreTied, settled_form, settled_contents, undone_form};
 ghost use Rattle.object_body.specs.Form.{NamesThreshold, undone_contents};
+ghost use Rattle.object_body.specs.Lengths.{outcome_of};
 ghost use Rattle.object_body.specs.Places.{IsReady};
 ghost use Rattle.object_body.specs.Stored.{IsLoad, IsLoaded, IsKeeping, entry_of, root_in};
 ghost use Rattle.object_body.specs.Stored.{threshold_in};
-ghost use Rattle.object_state.specs.Edits.{MakesTreeEdit};
+ghost use Rattle.object_state.specs.Edits.{MakesOnSpaces, MakesTreeEdit, tree_stage};
 ghost use Rattle.object_state.specs.Fits.{may_stand};
+ghost use Rattle.object_state.specs.Idle.{IsIdle};
 ghost use Rattle.object_state.specs.Keeps.{KeepsTreeBody};
 ghost use Rattle.object_state.specs.Kind.{tree_may_read};
 ghost use Rattle.object_state.specs.Tree.{tree_form, tree_contents};
 ghost use Rattle.object_body.specs.Form.{HaveLengths};
 
 use crate::creating::given;
+use crate::gathering::gather_unlocked;
 use crate::give::{give_marked, give_spare, unlock_marked};
 use crate::kept::Kept;
+use crate::letting_go::let_go;
+use crate::outcome::{is_idle, outcome};
 use crate::reading::read_tree;
-use eos_ops::{Bytes, Outcome};
+use eos_ops::{Bytes, Edit, Outcome};
 use layout_model::Extent;
-use object_body::LookFail;
+use object_body::{EditFail, LookFail};
 use page_cache::Cache;
 use page_port::{Geometry, Port};
 use page_set::PageSet;
@@ -237,6 +243,68 @@ impl<P: Port> TreeBody<P> {
             threshold,
         };
         Outcome::Done
+    }
+
+    /// What becomes of an edit that leaves the object as it is: one that isn't made, or that removes
+    /// nothing and brings nothing. None says that the edit is made and changes the object.
+    pub fn stays(&self, edit: &Edit) -> Option<Outcome>
+        ensures stays { IfSome result (λ outcome.
+            MakesTreeEdit P.S.tells edit.now outcome self.now self.now) }
+        ensures made { IsNone result →
+            outcome_of edit.now (tree_form self.now).working ≡ Done }
+        ensures changes { IsNone result → IsIdle edit.now → ⊥ }
+    {
+        let _page = self.geometry.page();
+        let outcome = outcome(edit, self.length());
+        if outcome != Outcome::Done {
+            return Some(outcome);
+        }
+        if is_idle(edit) {
+            return Some(Outcome::Done);
+        }
+        None
+    }
+
+    /// Destroys the object: its pages that the committed version uses are locked, and the others go
+    /// back. No other edit goes through all spans that it holds.
+    ///
+    /// # Errors
+    /// `Memory`. Both versions are as before.
+    pub fn destroy<L: Latches<S = P::S>>(
+        &mut self,
+        alloc: Global,
+        latches: &mut L,
+        turn: &mut L::Turn,
+    ) -> Result<Outcome, EditFail>
+        requires ready { IsReady (tree_form self.old).numbers (L.rest latches.old) }
+        ensures { MakesOnSpaces P.S.tells Destroy result
+            (tree_stage self.old (L.rest latches.old) (L.trace latches.old))
+            (tree_stage self.new (L.rest latches.new) (L.trace latches.new)) }
+    {
+        let _page = self.geometry.page();
+        if self.working.root.is_none() {
+            return Ok(Outcome::Missing);
+        }
+        let Ok(mut gone) = gather_unlocked(alloc, &self.geometry, &self.held, &mut self.locked)
+        else {
+            return Err(EditFail::Memory);
+        };
+        let_go(
+            &self.geometry,
+            &mut self.held,
+            &mut self.cache,
+            latches,
+            turn,
+            &mut self.fresh,
+            &mut self.locked,
+            &mut gone,
+        );
+        self.working = Kept {
+            root: None,
+            threshold: 0,
+        };
+        self.spare = None;
+        Ok(Outcome::Done)
     }
 
     /// Makes the working version the committed one, and gives back the pages that the old one alone

@@ -8,18 +8,6 @@ use Rattle.geometry_model.specs.Pages.{place}
 use Rattle.geometry_model.proofs.PageLaws.{place-catalog}
 use Rattle.geometry_model.proofs.NumberLaws.{page_size-high, space_pages-high}
 
--- a space whose bitmap takes at most half of a page has an order of at most 14
-pub order-at_most : (order page : ℕ) → 2 ^ order ≤ 4 * page → page ≤ 4096 → order ≤ 14
-order-at_most order page fits small =
-    elim (leb_tells order 14) as (λ _. order ≤ 14) [
-      | inl low ↦ low.1
-      | inr high ↦ absurd (let over : 15 ≤ order = omega (arith, high.1) in
-          let more : 2 ^ 15 ≤ 2 ^ order = pow_mono over in omega (arith, more))
-    ]
-
-pub order-high : (n : Numbers) → IsInRange n → n.order ≤ 14
-order-high n h = order-at_most n.order n.page h.order_high (page_size-high n.page h.page_size)
-
 -- the number of a directory page fits 32 bits, for each number of a space in 16 bits
 pub directory_page-fits : (n : Numbers) (s : ℕ) → IsInRange n → s < 2 ^ 16 → s * (1 + space_pages n) ≤ 65535 * 16385
 directory_page-fits n s h low = mul-le s (1 + space_pages n) 65535 16385 (omega arith) (omega (arith, space_pages-high n h))

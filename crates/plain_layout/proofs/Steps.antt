@@ -12,6 +12,7 @@ use Rattle.layout_model.specs.Grants.{Spaces, Answer, and_then, or_else, run_of,
 use Rattle.layout_model.specs.Grants.Answer.{Got, Refused}
 use Rattle.layout_model.specs.Layout.{spare_behind}
 use Rattle.layout_model.specs.Levels.{PageNode, NewLevel, pair_of, sizes_of, level_after, is_top, raised_levels}
+use Rattle.base_laws.proofs.OptionLaws.{same_branches}
 
 pub numbers_more : (first count : ℕ) → count ≢ 0 → range_with_len first count ≡ first ∷ range_with_len (first + 1) (count - 1)
 numbers_more first zero ne = absurd (ne refl)
@@ -50,10 +51,6 @@ pub place_from_more : (levels : ℕ) (blocks : List Bool) (size n : ℕ) → lev
 place_from_more zero blocks size n ne = absurd (ne refl)
 place_from_more (suc levels) blocks size n ne =
     let e : levels ≡ suc levels - 1 = omega arith in ap (λ k. place_step k blocks size n (found_at blocks size n)) e
-
-same_branches : (b : Bool) (x : Option ℕ) → (if b then x else x) ≡ x
-same_branches true x = refl
-same_branches false x = refl
 
 -- where no block is left there is none in any order
 pub found_none : (size n : ℕ) → found_at [] size n ≡ None

@@ -25,6 +25,7 @@ use Rattle.effect_laws.proofs.EffectLemmas.{effect-accepted}
 use Rattle.plain_moment.specs.Holders.{holder_of, ended_by}
 use Rattle.plain_moment.specs.Stored.{holder_in, is_bare}
 use Rattle.store_model.specs.Store.{HoldsBy, event_of}
+use Rattle.base_laws.proofs.OptionLaws.{same_branches}
 
 changed_same : (f g : ℕ → Bool) (change : ObjectSlot → ObjectSlot) → ((o : ℕ) → f o ≡ g o) →
     (from : ℕ) (slots : Moment) → changed_where f change from slots ≡ changed_where g change from slots
@@ -47,10 +48,6 @@ pub aborted_moved : (n : Numbers) (s : ℕ) (past : List Event) (m : Machine) (m
     ended_by s false (map holder_in m.slots) moment ≡ moment_after edited_slot n past moment (event_of s Abort reply.Ok)
 unfolding moment_after
 aborted_moved n s past m moment by = changed_same _ (λ o. holds s o past) undone (holder_same s past m by) 0 moment
-
-same_branches : (b : Bool) (x : Moment) → (if b then x else x) ≡ x
-same_branches true x = refl
-same_branches false x = refl
 
 -- a begin moves nothing, whatever it is answered
 pub begun_moved : (n : Numbers) (s : ℕ) (past : List Event) (moment : Moment) (r : Reply) →

@@ -21,9 +21,11 @@ use Rattle.machine.specs.Next.{next}
 use Rattle.machine.specs.Replies.{IsStep, refused, IsAnswered, is_taking}
 use Rattle.machine.proofs.Replying.{Replies-answers}
 use Rattle.machine.proofs.Sizes.{seats-next}
+use Rattle.machine.proofs.Answering.{unrefused}
 use Rattle.moment_model.specs.Edit.{edited_slot}
 use Rattle.moment_model.specs.Moment.{ObjectSlot, with_object_slot}
 use Rattle.moment_model.specs.Run.{answer_to, AreCounts, is_accepted, is_ok_reply}
+use Rattle.moment_model.proofs.ReplyLemmas.{ok_is}
 use Rattle.plain_moment.specs.Holders.{ended_by}
 use Rattle.plain_moment.specs.Stored.{Stored, HoldersAgree, IsStoreStep, HasServedPlain, IsTaking, taken_store}
 use Rattle.plain_moment.specs.Stored.{holder_in, holders_after, let_go, is_unfailing, is_bare, is_look, is_memory}
@@ -250,15 +252,6 @@ idle_served w w' s true step numbers holders moment =
 idle_served w w' s false step numbers holders moment =
     record { step = step; bare = refl; holders = holders; numbers = numbers; moment = moment }
 
--- the counts of pages
-status_session : (active : Bool) → or_else (session_refusal active Status) None ≡ None
-status_session true = refl
-status_session false = refl
-
-status_free : (m : Machine) (s : ℕ) → refused m s Status ≡ None
-unfolding refused
-status_free m s = status_session (seat_at m s).active
-
 pub status_step : (w : Stored) (s free locked held : ℕ) → HoldersAgree w → 0 < s → s ≤ SESSIONS →
     AreCounts w.numbers w.moment free locked held → IsStoreStep w s Status (reply.Status free locked held) w
 status_step w s free locked held tied low high counts = record {
@@ -267,7 +260,7 @@ status_step w s free locked held tied low high counts = record {
     event = record {
       session = session_in w s tied low high;
       reply = inr (subst (λ t. MatchOption t (IsAnswered w.machine Status (reply.Status free locked held))
-          (λ refusal. reply.Status free locked held ≡ refusal)) (sym (status_free w.machine s)) refl);
+          (λ refusal. reply.Status free locked held ≡ refusal)) (sym (unrefused w.machine s)) refl);
     };
     machine = refl;
     moment = λ past by. unmoved w.numbers s past w.moment Status (reply.Status free locked held) refl;
@@ -378,34 +371,14 @@ taken_not w now w' s o r y view step look memory same numbers holders moment =
           (refused_deed w.machine s (Length o) (Length o) r stands)) holders moment,
     )
 
-ok_only : (r : Reply) → is_ok_reply r ≡ true → r ≡ reply.Ok
-ok_only reply.Ok ok = refl
-ok_only (reply.Length n) ok = cc
-ok_only (reply.Bytes x) ok = cc
-ok_only (reply.Range n) ok = cc
-ok_only reply.Exists ok = cc
-ok_only reply.Missing ok = cc
-ok_only (reply.NoSpace n) ok = cc
-ok_only reply.Fault ok = cc
-ok_only reply.Busy ok = cc
-ok_only reply.Full ok = cc
-ok_only reply.NoObject ok = cc
-ok_only reply.Memory ok = cc
-ok_only reply.Idle ok = cc
-ok_only reply.Active ok = cc
-ok_only reply.TooLong ok = cc
-ok_only reply.Worn ok = cc
-ok_only (reply.Status f l h) ok = cc
-ok_only reply.Again ok = cc
-
 pub edited_put : (w w' w2 : Stored) (s o : ℕ) (c : Command) (e : Edit) (slot : ObjectSlot) (left : Spaces)
     (r : Reply) → HoldersAgree w → 0 < s → s ≤ SESSIONS → object_of c ≡ Some o → edit_of c ≡ Some e →
     is_accepted w.moment o e ≡ true → Got slot left ≡ answer_to edited_slot w.numbers w.moment s o e →
     HasServedPlain w s c r w' → is_ok_reply r ≡ true →
     w2 ≡ record w' { moment = with_object_slot w'.moment o slot } → IsStoreStep w s c r w2
 edited_put w w' w2 s o c e slot left r tied low high on is accepted got served ok put =
-    subst (λ x. IsStoreStep w s c x w2) (sym (ok_only r ok))
+    subst (λ x. IsStoreStep w s c x w2) (sym (ok_is r ok))
     (edited_step w w' w2 s o c e slot left tied low high on is accepted got (subst (λ x. HasServedPlain w s c x w')
-    (ok_only r ok) served) put)
+    (ok_is r ok) served) put)
 
 pub ruleset edited_ties = (put_tied, served_tied, taking_tied, refused_tied)

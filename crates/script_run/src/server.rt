@@ -4,6 +4,7 @@ ghost use Rattle.std.specs.Prelude.{◌≡◌, ℕ, ◌<◌, ◌≤◌, Bool, If
 ghost use Rattle.eos_ops.specs.declared.command.Command.{Command};
 ghost use Rattle.eos_ops.specs.declared.limits.TheConstants.{SESSIONS};
 ghost use Rattle.eos_ops.specs.declared.reply.Reply.{Reply};
+ghost use Rattle.script_model.specs.Grammar.{CommandFits};
 ghost use Rattle.script_text.specs.Failing.{BringsBytes};
 
 use eos_ops::{Command, Reply};
@@ -27,10 +28,11 @@ pub trait Server: Drop {
     // The end: the state before and after.
     ghost ended: { Self → Self → Type 0 };
 
-    /// Serves a command of session 1 to 64.
+    /// Serves a command of session 1 to 64, whose numbers are in the ranges of the grammar.
     fn serve(&mut self, session: u32, command: Command) -> Result<Reply, GaveUp>
         requires from_one { 0 < session }
         requires upto { session ≤ SESSIONS }
+        requires fits { CommandFits command }
         requires ready { ready self.old }
         ensures step { IfOk result (λ reply. step self.old session command reply self.new) }
         ensures ready { OnOk result (ready self.new) }

@@ -5,3 +5,4 @@ pub mod NumberLemmas
 pub mod PayloadLemmas
 pub mod SentLemmas
 pub mod WordLemmas
+pub mod MemoryLemmas

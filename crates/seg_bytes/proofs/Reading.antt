@@ -15,6 +15,7 @@ use Rattle.tree_model.specs.declared.entry.Placed.{Placed}
 use Rattle.tree_model.specs.Tree.{Pages, bytes_of}
 use Rattle.tree_model.specs.Range.{Covers, pairs_of, start_of}
 use Rattle.tree_model.specs.Content.{content, segment_bytes}
+use Rattle.tree_model.proofs.RangeLemmas.{no_segment, next-pair}
 use Rattle.seg_bytes.specs.Segments.{pages_touched, touched}
 use Rattle.seg_bytes.proofs.Runs.{take-joined}
 use Rattle.fault_count.proofs.CountLaws.{Reads-none, Reads-then, Reads-more}
@@ -166,20 +167,6 @@ IsReading-stopped told at size first len pairs rest p j done skip count out old 
     Reads-then so_far.so_far (pages_touched size skip count)
     (touched size pairs first len) old mid new so_far.reads more (omega (arith, sum, same, total))
 
--- what a segment past the end is read as
-abbrev pub no_segment : Placed
-no_segment = record { start = 0; pair = record { bytes = 0; page = 0 } }
-
--- the j-th segment is the first of the rest
-next_pair : (placed : List Placed) (j : ℕ) → j < length placed →
-    drop j (pairs_of placed) ≡ (get_or placed j no_segment).pair ∷ drop (j + 1) (pairs_of placed)
-next_pair placed j less =
-    let long : length (pairs_of placed) ≡ length placed = length-map placed (λ (s : Placed). s.pair) in
-    let next : suc j ≡ j + 1 = omega arith in
-    drop-cons (pairs_of placed) j (record { bytes = 0; page = 0 }) (omega arith)
-    ∙ ap (λ (p : Pair). p ∷ drop (suc j) (pairs_of placed)) (get_or-map (λ (s : Placed). s.pair) placed j no_segment)
-    ∙ ap (λ (k : ℕ). (get_or placed j no_segment).pair ∷ drop k (pairs_of placed)) next
-
 -- the call that reads a part of one segment to its place, and maybe what stands behind it
 pub record IsTurn (size page done skip count : ℕ) (p : Pair) (out : List ℕ) (mid new : Meter) : Type 0 where
   pub same : page ≡ size
@@ -210,7 +197,7 @@ IsReading-turn told at size page first len placed j done skip skip2 count out pa
     (IsReading-more told at size first len (pairs_of placed) (drop (j + 1) (pairs_of placed))
     (get_or placed j no_segment).pair j done skip count out (take count part) (take done out ++ (part ++ rest))
     old mid new
-    so_far (next_pair placed j less) refl (omega arith) full
+    so_far (next-pair placed j less) refl (omega arith) full
     (λ is_told. read is_told ∙ ap (λ (k : ℕ). take count (drop skip (segment_bytes at k (get_or placed j no_segment).pair))) t.same)
     (take-joined (done + count) done (take done out) (part ++ rest) (length-take-le done out (omega arith)) (omega arith)
     ∙ ap (λ (k : ℕ). take done out ++ take k (part ++ rest)) behind
@@ -227,7 +214,7 @@ IsReading-stop told at size page first len placed j done skip count out old mid 
     let count_is = t.count_is in
     IsReading-stopped told at size first len (pairs_of placed) (drop (j + 1) (pairs_of placed))
     (get_or placed j no_segment).pair j done skip count out old mid new
-    so_far (next_pair placed j less) (omega arith)
+    so_far (next-pair placed j less) (omega arith)
     (turn_reads size page done skip count (get_or placed j no_segment).pair out mid new t)
 
 -- what holds of each segment holds of the j-th

@@ -68,7 +68,7 @@ lasts_below last own stamp (k ∷ held) e =
 pub found_first : {T : Type 0} (k : Held T) (held : List (Held T)) → held_object k.number (k ∷ held) ≡ Some k.object
 found_first k held = let same : nat_eq k.number k.number ≡ true = eq-eqb k.number k.number refl in rw same refl
 
-found_later : {T : Type 0} (k : Held T) (held : List (Held T)) (o : ℕ) (x : T) → held_object k.number held ≡ None →
+pub found_later : {T : Type 0} (k : Held T) (held : List (Held T)) (o : ℕ) (x : T) → held_object k.number held ≡ None →
     held_object o held ≡ Some x → held_object o (k ∷ held) ≡ Some x
 found_later k held o x apart found =
     let other : nat_eq k.number o ≡ false = ne_eqb k.number o (λ e. let at = ap (λ n. held_object n held) e in cc) in rw other found

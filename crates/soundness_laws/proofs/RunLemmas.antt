@@ -27,6 +27,7 @@ use Rattle.moment_model.specs.Edit.{settled, undone}
 use Rattle.moment_model.specs.Run.{Lays, start_space, committed_by, aborted_by, changed_where, answer_to, slot_got}
 use Rattle.moment_model.specs.Run.{IsGot, after_edit, after_ok, is_ok_reply, moment_after, OkToEdit, Agrees, moment_of}
 use Rattle.moment_model.specs.Run.{AllAgree, all_aborted, Run}
+use Rattle.moment_model.proofs.ReplyLemmas.{ok_is}
 use Rattle.moment_laws.specs.Change.{held_without}
 use Rattle.moment_laws.proofs.EndLemmas.{changed-cases, sound-settled, sound-undone, sound-held_more, sound-all_aborted}
 use Rattle.soundness_laws.specs.Keeping.{AsksThreshold, KeepsSoundness}
@@ -299,26 +300,6 @@ steady-ok laid good n sessions s (Replace o at p) past moment keeps range low hi
     (active (edit.Replace at (payload_bytes p)) refl) (asks (edit.Replace at (payload_bytes p)) refl) refl steady got.1
 
 -- ---- a run
-
-ok_is : (r : Reply) → is_ok_reply r ≡ true → r ≡ reply.Ok
-ok_is reply.Ok ok = refl
-ok_is (reply.Length n) ok = absurd (false≢true ok)
-ok_is (reply.Bytes x) ok = absurd (false≢true ok)
-ok_is (reply.Range n) ok = absurd (false≢true ok)
-ok_is reply.Exists ok = absurd (false≢true ok)
-ok_is reply.Missing ok = absurd (false≢true ok)
-ok_is (reply.NoSpace n) ok = absurd (false≢true ok)
-ok_is reply.Fault ok = absurd (false≢true ok)
-ok_is reply.Busy ok = absurd (false≢true ok)
-ok_is reply.Full ok = absurd (false≢true ok)
-ok_is reply.NoObject ok = absurd (false≢true ok)
-ok_is reply.Memory ok = absurd (false≢true ok)
-ok_is reply.Idle ok = absurd (false≢true ok)
-ok_is reply.Active ok = absurd (false≢true ok)
-ok_is reply.TooLong ok = absurd (false≢true ok)
-ok_is reply.Worn ok = absurd (false≢true ok)
-ok_is (reply.Status f l h) ok = absurd (false≢true ok)
-ok_is reply.Again ok = absurd (false≢true ok)
 
 -- an answered line
 steady-after : (laid : Lays) (good : Numbers → Tree → Type 0) (n : Numbers) (sessions : ℕ) (e : Event)

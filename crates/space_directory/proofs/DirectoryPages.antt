@@ -7,15 +7,10 @@ use Rattle.block_model.specs.Bitmap.{packed, unpacked}
 use Rattle.block_model.specs.Directory.{directory_page}
 use Rattle.block_model.proofs.Bitmaps.{length-packed, length-unpacked, unpacked-packed}
 use Rattle.space_directory.specs.Opening.{IsDirectory}
+use Rattle.base_laws.proofs.NumberLaws.{eights}
 
 pub shifted : (order : ℕ) → order ≤ 14 → 1 * 2 ^ order % 2 ^ 64 ≡ 2 ^ order
 shifted order small = one_shl order 64 (omega arith)
-
-pub eights : (order : ℕ) → 4 ≤ order → 8 * (2 ^ order / 8) ≡ 2 ^ order
-eights order low =
-    let split : 2 ^ (order - 3 + 3) ≡ 2 ^ (order - 3) * 2 ^ 3 = pow-add 2 (order - 3) 3 in
-    let same : order - 3 + 3 ≡ order = omega arith in
-    let size : 2 ^ order ≡ 2 ^ (order - 3) * 8 = ap (λ (k : ℕ). 2 ^ k) (sym same) ∙ split in omega arith
 
 pub length-directory_page : (size space : ℕ) (free : List Bool) → 16 + length free / 8 ≤ size →
     length (directory_page size space free) ≡ size

@@ -244,7 +244,8 @@ begun_at rows page k order place begun =
     ]
 
 -- a span in two parts holds what it held
-pub cut_page : (r : HeldSpan) (n q : ℕ) → n ≤ length r.pages → option_or (page_of (front_part r n) q) (page_of (back_part r n) q) ≡ page_of r q
+pub cut_page : (r : HeldSpan) (n q : ℕ) → n ≤ length r.pages →
+    option_or (page_of (front_part r n) q) (page_of (back_part r n) q) ≡ page_of r q
 cut_page r n q fits =
     let long : length (take n r.pages) ≡ n = length-take-le n r.pages fits in
     let rest = length-drop n r.pages in

@@ -1,5 +1,6 @@
 -- The first span that begins at a page or behind it.
-use Rattle.std.proofs.Common.{◌≡◌, ℕ, zero, suc, ◌+◌, ◌-◌, ◌<◌, ◌≤◌, Bool, true, false, List, [], ◌∷◌, ◌++◌, length, take, drop, get_or, refl, sym, ap, ◌∙◌}
+use Rattle.std.proofs.Common.{◌≡◌, ℕ, zero, suc, ◌+◌, ◌-◌, ◌<◌, ◌≤◌, Bool, true, false, List, [], ◌∷◌, ◌++◌, length, take, drop}
+use Rattle.std.proofs.Common.{get_or, refl, sym, ap, ◌∙◌}
 use Rattle.std.proofs.Common.{inl, inr, arith}
 use Rattle.std.specs.Prelude.{is_some, ◌||◌, ◌==◌, Option, Some, None, IsTrue}
 use Rattle.std.specs.Option.{option_or}
@@ -77,7 +78,8 @@ span-from rows w s page k n view order count within here =
     }
 
 -- behind all pieces none begins
-pub none-left : (ps : List (List HeldSpan)) (w : Held) (page i j n : ℕ) → record { spans = spans_in ps; room = length (spans_in ps) + n } ≡ w →
+pub none-left : (ps : List (List HeldSpan)) (w : Held) (page i j n : ℕ) →
+    record { spans = spans_in ps; room = length (spans_in ps) + n } ≡ w →
     InOrder 0 (spans_in ps) → IsFirstFrom ps page i j → length ps ≤ i → (q : ℕ) → page ≤ q → begins w q ≡ false
 none-left ps w page i j n view order first past q from =
     let end = end_rank ps i j past in

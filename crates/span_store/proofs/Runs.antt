@@ -1,5 +1,5 @@
 -- The bytes of runs of pages: joined, and those that one span has.
-use Rattle.std.proofs.Common.{min, inl, inr, length-drop, ◌≡◌, ℕ, zero, suc, ◌+◌, ◌-◌, ◌*◌, ◌/◌, ◌%◌, ◌<◌, ◌≤◌}
+use Rattle.std.proofs.Common.{min, inl, inr, length-drop, ◌≡◌, ℕ, zero, suc, ◌+◌, ◌-◌, ◌*◌, ◌/◌, ◌%◌, ◌<◌, ◌≤◌, true}
 use Rattle.std.proofs.Common.{List, [], ◌++◌, length, take, drop, get_or, refl, sym, ap, subst, ◌∙◌}
 use Rattle.std.proofs.Common.{arith, drop-cons}
 use Rattle.std.specs.Prelude.{unwrap_or}
@@ -14,7 +14,7 @@ use Rattle.tree_model.specs.Tree.{Pages}
 use Rattle.tree_model.specs.Content.{run_bytes}
 use Rattle.tree_model.proofs.PageCountLaws.{run_bytes-add}
 use Rattle.page_port.specs.Pages.{IsWhole}
-use Rattle.span_store.specs.Held.{HeldSpan, bytes_in}
+use Rattle.span_store.specs.Held.{HeldSpan, bytes_in, Held, HoldsRun, has}
 use Rattle.span_store.specs.Order.{HaveRun, InOrder, no_span}
 use Rattle.span_store.specs.Pieces.{IsAt, IsAtOrEnd, piece_at, rank_of, spans_in}
 use Rattle.span_store.proofs.SpanLists.{IsIn, IsNear, end_of, near-held, near-next, page_in-inside, page_of-inside}
@@ -227,3 +227,9 @@ move_is size unit first len page done pages count bytes part some all same =
       whole = subst (λ (k : ℕ). IsWhole k (length (piece size done count bytes))) same moved.whole;
       quotient = sym (ap (λ (k : ℕ). length (piece size done count bytes) / k) same) ∙ moved.count_is;
     }
+
+-- a page that is held is a run of one
+pub run_of_one : (held : Held) (page : ℕ) → has held page ≡ true → HoldsRun held page 1
+run_of_one held page is q from to =
+    let same : page ≡ q = omega arith in
+    subst (λ (k : ℕ). has held k ≡ true) same is

@@ -13,6 +13,7 @@ use Rattle.page_port.specs.Device.{after_return, page_bytes, returned_bytes}
 use Rattle.image_model.specs.Super.{image_page}
 use Rattle.tree_model.specs.Tree.{Pages}
 use Rattle.store_format.specs.Rows.{row_page, KeepsShape, KeepsPagesBut}
+use Rattle.base_laws.proofs.NumberLaws.{one_page}
 
 sized-tail : (size : ℕ) (page : List ℕ) (pages : List (List ℕ)) → AreOf size (page ∷ pages) → AreOf size pages
 sized-tail size page pages sized = All-drop (λ (p : List ℕ). length p ≡ size) 1 (page ∷ pages) sized
@@ -124,9 +125,6 @@ out-away (suc count) pages some is = ap (list_all is_some) is
 
 -- ---- one page
 
-pub one-page : (bytes size : ℕ) → 0 < size → bytes ≡ size → bytes / size ≡ 1
-one-page bytes size some same = ap (λ (k : ℕ). k / size) same ∙ div_self some
-
 pub whole-page : (size : ℕ) (page : List ℕ) → length page ≡ size → image_page size page 0 ≡ page
 whole-page size page long =
     let none : 0 * size ≡ 0 = omega arith in
@@ -136,7 +134,7 @@ pub fits-one : (told : Bool) (size at bytes : ℕ) (pages : List (List ℕ)) →
     IsSized told size pages → FitsPages told size at bytes pages
 fits-one told size at bytes pages some same inside sized = record {
   whole = record { some = omega (arith, same, some); even = ap (λ (k : ℕ). k % size) same ∙ mod_self size };
-  range = omega (arith, one-page bytes size some same, inside);
+  range = omega (arith, one_page bytes size same some, inside);
   sized = sized;
 }
 

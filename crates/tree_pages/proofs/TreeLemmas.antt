@@ -13,6 +13,7 @@ use Rattle.tree_model.specs.declared.tree.Root.{Root}
 use Rattle.tree_model.specs.Content.{content}
 use Rattle.tree_model.specs.Tree.{Pages, pairs_on, bytes_of, AreTrees, HasNode, IsSegment, IsTree, IsTreeOf}
 use Rattle.tree_model.specs.Tree.{root_least, entries_under, entries_of, nodes_under, nodes_of}
+use Rattle.tree_model.proofs.TreeLemmas.{bytes_of-entries_under}
 use Rattle.layout_model.specs.Levels.{PageNode, entries_of_levels}
 use Rattle.moment_model.specs.Version.{AreFilled, AreLevels, StandOnData, uses, segment_run, segment_uses, node_uses}
 use Rattle.tree_pages.specs.Entry.{Entry, Present}
@@ -26,27 +27,9 @@ use Rattle.tree_pages.proofs.FrameLemmas.{Stays, levels-stay, tree-stays, tree_n
 
 -- ---- bytes
 
--- entries under the pairs of trees have the bytes of the pairs
-bytes-under : (at : Pages) (half height : ℕ) (pairs : List Pair) → AreTrees at half height pairs →
-    bytes_of (entries_under at height pairs) ≡ bytes_of pairs
-bytes-under at half zero pairs trees = refl
-bytes-under at half (suc height) pairs trees = go (bytes-under at half height) pairs trees
-  where
-    go : ((pairs : List Pair) → AreTrees at half height pairs → bytes_of (entries_under at height pairs) ≡ bytes_of pairs) →
-        (pairs : List Pair) → AreTrees at half (suc height) pairs → bytes_of (entries_under at (suc height) pairs) ≡ bytes_of pairs
-    go below [] trees = refl
-    go below (p ∷ ps) trees =
-        let parts = sum_by-append (λ (q : Pair). q.bytes) (entries_under at height (pairs_on at p.page))
-        (entries_under at (suc height) ps) in
-        let whole = sum_by-cons (λ (q : Pair). q.bytes) p ps in
-        let here = below (pairs_on at p.page) trees.0.1 in
-        let counted = trees.0.0.counted in
-        let more = go below ps trees.1 in
-        omega (arith, parts, whole, here, counted, more)
-
 pub tree-bytes : (at : Pages) (half height page bytes : ℕ) → IsTree at half height page bytes → bytes_of (entries_of at height page) ≡ bytes
 tree-bytes at half zero page bytes tree = sym tree.1
-tree-bytes at half (suc height) page bytes tree = bytes-under at half height (pairs_on at page) tree.1 ∙ tree.0.counted
+tree-bytes at half (suc height) page bytes tree = bytes_of-entries_under at half height (pairs_on at page) tree.1 ∙ tree.0.counted
 
 -- ---- from a tree to its levels
 

@@ -18,9 +18,3 @@ some-HoldsNode (Some page) h = refl
 
 pub held-HoldsNode : (held : Held) (page : ℕ) → HoldsNode (bytes_on held page) → has held page ≡ true
 held-HoldsNode held page h = some-HoldsNode (page_at held page) h
-
--- a page that is held is a run of one
-pub run_of_one : (held : Held) (page : ℕ) → has held page ≡ true → HoldsRun held page 1
-run_of_one held page is q from to =
-    let same : page ≡ q = omega arith in
-    subst (λ (k : ℕ). has held k ≡ true) same is

@@ -12,6 +12,7 @@ use Rattle.tree_model.specs.declared.entry.Placed.{Placed}
 use Rattle.tree_model.specs.Tree.{Pages, bytes_of, pairs_on, HasNode, AreTrees, IsTree, entries_under, entries_of, root_least}
 use Rattle.tree_model.specs.Range.{is_in_range, in_range, pairs_of}
 use Rattle.tree_model.proofs.RangeLemmas.{in_range-append}
+use Rattle.tree_model.proofs.TreeLemmas.{bytes_of-entries_under}
 
 -- the bytes of a list of pairs
 pub bytes_of-cons : (p : Pair) (ps : List Pair) → bytes_of (p ∷ ps) ≡ p.bytes + bytes_of ps
@@ -85,29 +86,6 @@ AreTrees-root at half height page bytes tree = (
 pub under-root : (at : Pages) (height page bytes : ℕ)
     → under at (suc height) (record { bytes = bytes; page = page }) ≡ entries_of at (suc height) page
 under-root at height page bytes = append-nil (entries_under at height (pairs_on at page))
-
--- pairs that each have just the bytes of what a function makes of them
-bytes_of-flat_map : (f : Pair → List Pair) (ps : List Pair) → AllByRecursion (λ p. bytes_of (f p) ≡ p.bytes) ps
-    → bytes_of (flat_map f ps) ≡ bytes_of ps
-bytes_of-flat_map f [] each = refl
-bytes_of-flat_map f (p ∷ ps) each =
-    let rest = bytes_of-flat_map f ps each.1 in
-    let here = each.0 in
-    let whole = bytes_of-append (f p) (flat_map f ps) in
-    let parts = bytes_of-cons p ps in
-    omega (arith, rest, here, whole, parts)
-
--- the entries have just the bytes of the pairs above them
-pub bytes_of-entries_under : (at : Pages) (half height : ℕ) (pairs : List Pair) → AreTrees at half height pairs
-    → bytes_of (entries_under at height pairs) ≡ bytes_of pairs
-bytes_of-entries_under at half zero pairs trees = refl
-bytes_of-entries_under at half (suc height) pairs trees =
-    bytes_of-flat_map (λ (p : Pair). entries_under at height (pairs_on at p.page)) pairs
-    (all-map
-    (λ (p : Pair). HasNode at p.page (suc height) half p.bytes × AreTrees at half height (pairs_on at p.page))
-    (λ (p : Pair). bytes_of (entries_under at height (pairs_on at p.page)) ≡ p.bytes)
-    (λ p here. bytes_of-entries_under at half height (pairs_on at p.page) here.1 ∙ here.0.counted)
-    pairs trees)
 
 pub bytes_of-under : (at : Pages) (half height : ℕ) (p : Pair) → AreTrees at half height (p ∷ []) → bytes_of (under at height p) ≡ p.bytes
 bytes_of-under at half height p trees = let whole = bytes_of-entries_under at half height (p ∷ []) trees in omega arith

@@ -80,3 +80,9 @@ pub record Searches (told : Bool) (size : ℕ) (at : Pages) (by : List Placed)
   pub uses : Uses old new
   pub few : IsTrue told → new.read ≤ old.read + length by
   pub cached : IsTrue told → AreKept before by → new.read ≡ old.read
+
+-- nodes were read: those that are kept are right, and no page was written
+pub record ReadsNodes (told : Bool) (size : ℕ) (at : Pages) (after : KeptNodes) (old new : Meter)
+    : Type 0 where
+  pub nodes : KeepsNodes told size at after
+  pub uses : Uses old new

@@ -14,17 +14,13 @@ use Rattle.tree_model.specs.Node.{IsPair}
 use Rattle.tree_model.specs.Tree.{Pages, AreTrees, HasNode, IsTree, pairs_on}
 use Rattle.tree_pages.specs.Levels.{node_on}
 use Rattle.tree_pages.proofs.ShapeLemmas.{trees-named}
-use Rattle.tree_read.specs.Search.{KeepsNodes, Visits}
-use Rattle.tree_read.proofs.MeterLemmas.{Uses-none, Uses-then}
+use Rattle.tree_read.specs.Search.{KeepsNodes, Visits, ReadsNodes}
+use Rattle.tree_read.proofs.MeterLemmas.{Uses-then}
 use Rattle.tree_read.proofs.TreeLemmas.{AreTrees-root}
-use Rattle.tree_splice.specs.Way.{HasSomePairs, ReadsNodes, named_on}
+use Rattle.tree_splice.specs.Way.{HasSomePairs, named_on}
 use Rattle.tree_splice.proofs.PlaceLemmas.{no_pair}
 
 -- ---- what reading does
-
-pub reads-none : (told : Bool) (size : ℕ) (at : Pages) (c : KeptNodes) (m : Meter) → KeepsNodes told size at c → ReadsNodes told size at c m
-    m
-reads-none told size at c m nodes = record { nodes = nodes; uses = Uses-none m }
 
 pub reads-visit : (told : Bool) (size page : ℕ) (at : Pages) (n : ℕ) (F : Type 0) (c0 c1 : KeptNodes) (old mid new : Meter) →
     ReadsNodes told size at c0 old mid → Visits told page at n F c0 c1 mid new → page ≡ size → ReadsNodes told size at c1 old new

@@ -36,12 +36,15 @@ use Rattle.tree_model.specs.declared.tree.Root.{Root}
 use Rattle.tree_model.specs.Node.{room_of}
 use Rattle.tree_model.specs.Tree.{bytes_of, entries_of}
 use Rattle.tree_read.specs.Search.{KeepsNodes}
-use Rattle.tree_splice.specs.Fresh.{FreshPage, AreAllOf, AreAllWritten, ArePagesApart, fresh_at, is_on_pages, page_numbers}
+use Rattle.tree_splice.specs.Fresh.{FreshPage, AreAllOf, AreAllWritten, AreHomely, ArePagesApart, fresh_at, is_on_pages, page_numbers}
 use Rattle.tree_splice.specs.Remade.{remade, row_pages}
-use Rattle.tree_splice.specs.Splice.{CanSplice, HoldsNew, IsBetween, IsSpliced, WritesAtMost, firsts_of, single_run}
+use Rattle.superdirectory.specs.Rest.{Frame}
+use Rattle.tree_splice.specs.Splice.{ArePagesIn, CanSplice, HoldsNew, IsBetween, IsSpliced, WritesAtMost}
+use Rattle.tree_splice.specs.Splice.{extent_of, firsts_of, single_run}
 use Rattle.tree_splice.specs.Way.{AreAllMade, MadeStand, levels_of, root_with}
 use Rattle.tree_splice.specs.declared.remade.Remade.{Remade}
-use Rattle.tree_splice.proofs.FreshLemmas.{holds-new}
+use Rattle.moment_model.specs.Version.{uses}
+use Rattle.tree_splice.proofs.FreshLemmas.{holds-new, pages-once}
 use Rattle.tree_splice.proofs.ToldLemmas.{Found, begins-spans, kept-stays, page-spans, pages-come, stand-new, told-spliced}
 
 -- What was made on new pages, where these are held and a node has so many bytes.
@@ -102,9 +105,22 @@ pub end-held : (tells : Bool) (size : ℕ) (old mid new : Held) (want place many
     (pages : List FreshPage) (levels : List Remade) (made left : List PageRun) →
     Makes tells size mid path place many want fresh pages levels made left → Holds pages old mid new → HoldsNew made old new
 end-held tells size old mid new want place many fresh path pages levels made left makes holds =
-    holds-new pages made old new (firsts-made made (page_numbers pages) makes.made_is) (lacked-old pages old mid new holds makes.lacked)
+    holds-new pages made old new (firsts-made made (page_numbers pages) makes.made_is)
+    (λ q. let few = pages-once pages q makes.apart in
+    let same = ap (λ (rs : List PageRun). uses q (map extent_of rs)) makes.made_is in omega (arith, few, same))
+    (lacked-old pages old mid new holds makes.lacked)
     (held-old pages old mid new holds)
     (λ q. holds.begun q ∙ ap (λ (b : Bool). is_on_pages q (page_numbers pages) || b) (begins-spans mid old q holds.same))
+
+-- pages at home lie in the spaces
+homely-in : (tells : Bool) (frame : Frame) (pages : List FreshPage) → AreHomely tells frame pages → ArePagesIn frame (page_numbers pages)
+homely-in tells frame [] home = tt
+homely-in tells frame (p ∷ pages) home = ((p.space, home.0), homely-in tells frame pages home.2)
+
+pub end-home : (tells : Bool) (frame : Frame) (made : List PageRun) (pages : List FreshPage) → made ≡ map single_run (page_numbers pages) →
+    AreHomely tells frame pages → ArePagesIn frame (firsts_of made)
+end-home tells frame made pages are home =
+    subst (ArePagesIn frame) (sym (firsts-made made (page_numbers pages) are)) (homely-in tells frame pages home)
 
 pub end-single : (made : List PageRun) (pages : List ℕ) → made ≡ map single_run pages → made ≡ map single_run (firsts_of made)
 end-single made pages are = are ∙ ap (map single_run) (sym (firsts-made made pages are))

@@ -7,6 +7,7 @@ use Rattle.std.proofs.Common.{
   ◌+◌,
   ◌-◌,
   ◌<◌,
+  ◌≤◌,
   ◌==◌,
   ◌||◌,
   Bool,
@@ -28,7 +29,8 @@ use Rattle.std.proofs.Common.{Option, Some, None, IsTrue, refl, sym, ap, subst, 
 use Rattle.std.specs.Prelude.{slice_index_or, is_some, unwrap_or}
 use Rattle.std.specs.List.{AllByRecursion, flat_map}
 use Rattle.std.specs.Option.{option_or}
-use Rattle.std.proofs.lemmas.Bool.{cases_Bool, cases_lt, eq-eqb, eqb-true}
+use Rattle.std.proofs.lemmas.Bool.{cases_Bool, cases_lt, eq-eqb, eqb-true, false≢true}
+use Rattle.std.proofs.lemmas.List.Sums.{sum_by-cons}
 use Rattle.std.proofs.lemmas.List.{drop-map, drop-take, length-map, map-append, set-get_or, take-take}
 use Rattle.std.proofs.lemmas.List.Concat.{flat_map-cons}
 use Rattle.std.proofs.Math.Seq.{drop-append_seam, map-set, take-append_seam}
@@ -61,7 +63,10 @@ use Rattle.tree_splice.specs.Fresh.{
   page_numbers,
 }
 use Rattle.tree_splice.specs.Remade.{row_pages}
-use Rattle.tree_splice.specs.Splice.{HoldsNew, firsts_of}
+use Rattle.tree_splice.specs.Splice.{HoldsNew, extent_of, firsts_of, single_run}
+use Rattle.layout_model.specs.declared.extent.Extent.{Extent}
+use Rattle.moment_model.specs.Version.{covers, uses}
+use Rattle.moment_laws.proofs.GrantLemmas.{covers-cases}
 use Rattle.tree_splice.specs.Way.{MadeStand}
 use Rattle.tree_splice.specs.declared.remade.Remade.{Remade}
 
@@ -333,16 +338,63 @@ gap-begins (s ∷ spans) q none some = elim (cases_Bool (is_some (page_of s (q +
     or-true true = refl
     or-true false = refl
 
+-- pages apart are each in one run of one page
+off-page : (page q : ℕ) → (page == q) ≡ false → covers q (extent_of (single_run page)) ≡ 0
+off-page page q apart = elim (covers-cases q (extent_of (single_run page))) [
+  | inl one ↦
+      (let from = one.1 in let to = one.2 in let same : page ≡ q = omega (arith, from, to) in
+      absurd (false≢true (sym apart ∙ eq-eqb page q same)))
+  | inr none ↦ none.0
+]
+
+off-pages : (pages : List FreshPage) (q : ℕ) → is_on_pages q (page_numbers pages) ≡ false →
+    uses q (map extent_of (map single_run (page_numbers pages))) ≡ 0
+off-pages [] q off = refl
+off-pages (p ∷ pages) q off = elim (cases_Bool (p.page == q)) [
+  | inl is_so ↦ (let bad : is_on_pages q (page_numbers (p ∷ pages)) ≡ true = rw is_so refl in cc)
+  | inr not_so ↦
+      (let rest : is_on_pages q (page_numbers pages) ≡ false =
+      (let e : is_on_pages q (page_numbers (p ∷ pages)) ≡ is_on_pages q (page_numbers pages) = rw not_so refl in sym e ∙ off) in
+      let none = off-page p.page q not_so in
+      let both = sum_by-cons (covers q) (extent_of (single_run p.page)) (map extent_of (map single_run (page_numbers pages))) in
+      let more = off-pages pages q rest in
+      omega (arith, none, both, more))
+]
+
+pub pages-once : (pages : List FreshPage) (q : ℕ) → ArePagesApart pages →
+    uses q (map extent_of (map single_run (page_numbers pages))) ≤ 1
+pages-once [] q apart = omega arith
+pages-once (p ∷ pages) q apart =
+    let rest = map extent_of (map single_run (page_numbers pages)) in
+    let both = sum_by-cons (covers q) (extent_of (single_run p.page)) rest in
+    elim (cases_Bool (p.page == q)) [
+      | inl is_so ↦
+          (let same : p.page ≡ q = eqb-true p.page q is_so in
+          let out = none-fresh pages q (subst (λ (k : ℕ). fresh_at pages k ≡ None) same apart.0) in
+          let off = off-pages pages q out in
+          let few = few-covers (extent_of (single_run p.page)) in
+          omega (arith, both, off, few))
+      | inr not_so ↦
+          (let more = pages-once pages q apart.1 in
+          let none = off-page p.page q not_so in
+          omega (arith, both, none, more))
+    ]
+  where
+    few-covers : (run : Extent) → covers q run ≤ 1
+    few-covers run = elim (covers-cases q run) [ inl one ↦ omega (arith, one.0) | inr none ↦ omega (arith, none.0) ]
+
 -- what is held besides, once the pages are held
 pub holds-new : (pages : List FreshPage) (made : List PageRun) (old new : Held) → firsts_of made ≡ page_numbers pages →
+    ((q : ℕ) → uses q (map extent_of made) ≤ 1) →
     ((q : ℕ) → IsTrue (is_on_pages q (page_numbers pages)) → page_at old q ≡ None) →
     ((q : ℕ) → page_at new q ≡ option_or (fresh_at pages q) (page_at old q)) →
     ((q : ℕ) → begins new q ≡ (is_on_pages q (page_numbers pages) || begins old q)) → HoldsNew made old new
-holds-new pages made old new same lacked held begun =
+holds-new pages made old new same once lacked held begun =
     let into : (q : ℕ) → is_on_pages q (firsts_of made) ≡ is_on_pages q (page_numbers pages) = λ q. ap (is_on_pages q) same in
     let has_it : (q : ℕ) → IsTrue (is_on_pages q (page_numbers pages)) → is_some (page_at new q) ≡ true = λ q is.
     ap is_some (held q) ∙ some-or (fresh_at pages q) (page_at old q) (fresh-some pages q is) in
     record {
+      once = once;
       others = λ q out. held q ∙ ap (λ (o : Option (List ℕ)). option_or o (page_at old q)) (fresh-none pages q (sym (into q) ∙ out));
       fresh = λ q is. lacked q (sym (into q) ∙ is);
       held = λ q is. has_it q (sym (into q) ∙ is);

@@ -1,6 +1,5 @@
 pub mod RunLemmas
 pub mod WholeLemmas
-pub mod AlikeLemmas
 pub mod PathLemmas
 pub mod EndedLemmas
 pub mod NearLemmas

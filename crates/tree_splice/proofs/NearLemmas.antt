@@ -319,7 +319,7 @@ cut-near at height bytes names spot trees =
 
 -- ---- the names below a cut
 
-empty-pairs : (nodes : List PageNode) → length nodes ≡ 0 → length (pairs_of_level nodes) ≡ 0
+pub empty-pairs : (nodes : List PageNode) → length nodes ≡ 0 → length (pairs_of_level nodes) ≡ 0
 empty-pairs [] none = refl
 empty-pairs (node ∷ rest) none = let some : suc (length rest) ≡ 0 = none in absurd (omega (arith, some))
 

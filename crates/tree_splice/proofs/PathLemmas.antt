@@ -4,7 +4,7 @@ use Rattle.std.proofs.Common.{drop, refl, sym, ap, subst, arith, ◌∙◌, inl,
 use Rattle.std.proofs.lemmas.Bool.{and_parts, cases_Bool, cases_lt, eqb-true, eqb-false, false≢true, lt-ltb, ne_eqb}
 use Rattle.std.proofs.lemmas.List.{length-append, length-map}
 use Rattle.change_laws.proofs.NodeCountLemmas.{made-cons}
-use Rattle.tree_splice.proofs.AlikeLemmas.{Alike, after-alike, raised_levels-alike, top-alike}
+use Rattle.change_laws.proofs.NodeCountLemmas.{Alike, after-alike, raised_levels-alike, top-alike}
 use Rattle.layout_laws.proofs.LevelLemmas.{raised_levels-head}
 use Rattle.layout_model.specs.Levels.{PageNode, NewLevel, count_made, is_top, level_after, pair_of, raised_levels}
 use Rattle.layout_model.specs.Levels.{spliced}
@@ -23,7 +23,7 @@ use Rattle.tree_splice.specs.Down.{AreEnough, ShowsWay, place_in}
 use Rattle.tree_splice.specs.Remade.{remade}
 use Rattle.tree_splice.specs.Way.{MadeStand, levels_of, top_of}
 use Rattle.tree_splice.proofs.StoredLemmas.{AreEnds, AreRebuilt, has_none, path-rebuilt}
-use Rattle.tree_splice.proofs.UpLemmas.{path-more, path-top}
+use Rattle.tree_splice.proofs.UpLemmas.{path-more, path-top, path-head}
 use Rattle.tree_splice.proofs.WholeLemmas.{whole-path}
 
 -- ---- how many nodes are made doesn't depend on the pages
@@ -123,19 +123,6 @@ abbrev pub AreTopped : List Cut → List NewLevel → Type 0
 AreTopped [] new = Unit {0}
 AreTopped (cut ∷ above) [] = Unit {0}
 AreTopped (cut ∷ above) (level ∷ new) = (length new ≡ 0 → NothingBeside cut) × AreTopped above new
-
--- the first of the new levels is the one below
-path-head : (f : ℕ) (below : NewLevel) (level : PathLevel) (above : List PathLevel) (pages : List ℕ) →
-    (rest : List NewLevel) × (new_path_from f below level above pages ≡ below ∷ rest)
-path-head f below level [] pages = raised_levels-head (length below.nodes) f below pages
-path-head f below level (up ∷ above) pages = elim (cases_Bool (is_top_of_path level below)) [
-  | inl top ↦ ([], path-top f below level up above pages top)
-  | inr more ↦ (
-    new_path_from f (level_after f up.nodes (level.first + below.from) below.count (map pair_of below.made)
-        (drop (length below.made) pages)) up above (drop (length below.made) pages),
-    path-more f below level up above pages more,
-  )
-]
 
 -- a level that is the highest has nothing beside its run
 top-beside : (cut : Cut) (above : List Cut) (below : NewLevel) → is_top_of_path (shown_level cut above) below ≡ true → NothingBeside cut

@@ -7,6 +7,7 @@ use Rattle.std.proofs.lemmas.Bool.Decides.{nat_tests}
 use Rattle.std.proofs.lemmas.List.{append-nil, length-map, take-append-drop}
 use Rattle.std.proofs.lemmas.List.Sums.{sum_by-cons}
 use Rattle.base_laws.proofs.ListLaws.{all-append}
+use Rattle.base_laws.proofs.NumberLaws.{some-of}
 use Rattle.content_laws.specs.Spelling.{HaveBytes}
 use Rattle.change_laws.proofs.PartLemmas.{all-left, all-right}
 use Rattle.layout_laws.proofs.LevelLemmas.{count-cons}
@@ -18,7 +19,7 @@ use Rattle.tree_model.specs.declared.entry.Pair.{Pair}
 use Rattle.tree_model.specs.declared.tree.Root.{Root}
 use Rattle.tree_model.specs.Tree.{Pages, AreTrees, HasNode, IsTree, bytes_of, entries_of, pairs_on, root_least}
 use Rattle.tree_pages.specs.Levels.{levels_at, levels_down, node_on}
-use Rattle.tree_read.proofs.TreeLemmas.{bytes_of-append}
+use Rattle.tree_read.proofs.TreeLemmas.{bytes_of-append, AreTrees-least}
 use Rattle.tree_splice.specs.Down.{AreBelow, AreKnown, AreUnder, GoesDown, Names, ShowsWay, all_names}
 use Rattle.tree_splice.specs.Down.{below_names, cut_below, deciding_bytes, entries_before, root_names}
 use Rattle.tree_splice.specs.Down.{section_of, way_below, way_of}
@@ -28,24 +29,14 @@ use Rattle.tree_splice.specs.declared.section.Deciding.{Deciding}
 use Rattle.tree_splice.specs.declared.section.Section.{Section}
 use Rattle.tree_splice.proofs.DownLemmas.{node-pairs}
 use Rattle.tree_splice.proofs.EndedLemmas.{HasTwo}
-use Rattle.tree_splice.proofs.NearLemmas.{cut-near, cut-under, is_cut_below, is_section}
+use Rattle.tree_splice.proofs.NearLemmas.{cut-near, cut-under, is_cut_below, is_section, empty-pairs}
 use Rattle.tree_splice.proofs.NearLemmas.{named-bytes, three-parts}
 use Rattle.tree_splice.proofs.NewLemmas.{pairs-some}
 use Rattle.tree_splice.proofs.WayLemmas.{AreLed, below-all, cut-whole, first_byte-close, lowest-enough}
-use Rattle.tree_splice.proofs.WayLemmas.{root-spot, run-count, trees-any, trees-least, trees-under, under-led, under-levels}
+use Rattle.tree_splice.proofs.WayLemmas.{root-spot, run-count, trees-least, trees-under, under-led, under-levels}
 use Rattle.window_laws.proofs.CountLemmas.{border-number}
 
 -- ---- one level more, as the code finds it
-
-lt-or : (x y : ℕ) → nat_lt 0 (x + y) ≡ (nat_lt 0 x || nat_lt 0 y)
-lt-or x y = elim (cases_lt 0 x) [
-  | inl some ↦
-      lt-ltb 0 (x + y) (omega (arith, some)) ∙ sym (ap (λ (b : Bool). b || nat_lt 0 y) (lt-ltb 0 x some))
-  | inr none ↦
-      let same : x + y ≡ y = omega (arith, none) in
-      let no : nat_lt 0 x ≡ false = grind (arith, nat_tests) in
-      ap (nat_lt 0) same ∙ sym (ap (λ (b : Bool). b || nat_lt 0 y) no)
-]
 
 -- a count is some where one that is some alike says so
 lt-same : (x y : ℕ) → (0 < x → 0 < y) → (0 < y → 0 < x) → nat_lt 0 x ≡ nat_lt 0 y
@@ -86,14 +77,14 @@ level-shown at height bytes names cuts pairs start before behind section nodes u
     let before_is : (before || nat_lt 0 section.first) ≡ nat_lt 0 (length cut.front) =
     ap (λ (b : Bool). b || nat_lt 0 section.first) known.before_is
     ∙ (ap (λ (s : Section). nat_lt 0 (length names.front) || nat_lt 0 s.first) same
-    ∙ (sym (lt-or (length names.front) own.first) ∙ ap (nat_lt 0) (sym front_long))) in
+    ∙ (sym (some-of (length names.front) own.first) ∙ ap (nat_lt 0) (sym front_long))) in
     let left = length names.run - own.end in
     let behind_is : (behind || nat_lt section.end (length pairs)) ≡ nat_lt 0 (length cut.back) =
     ap (λ (b : Bool). b || nat_lt section.end (length pairs)) known.behind_is
     ∙ (ap (λ (ps : List Pair). nat_lt 0 (length names.back) || nat_lt section.end (length ps)) (sym known.run_is)
     ∙ (ap (λ (s : Section). nat_lt 0 (length names.back) || nat_lt s.end (length names.run)) same
     ∙ (ap (λ (b : Bool). nat_lt 0 (length names.back) || b) (less own.end (length names.run))
-    ∙ (sym (lt-or (length names.back) left)
+    ∙ (sym (some-of (length names.back) left)
     ∙ ap (nat_lt 0) (let sum : length names.back + left ≡ length cut.back = omega (arith, back_long) in sum))))) in
     ap (λ (ns : List PageNode). record {
       nodes = ns;
@@ -156,10 +147,6 @@ pairs-some-in at height (p ∷ pairs) trees =
     let long : length (p ∷ pairs) ≡ suc (length pairs) = refl in
     omega (arith, one, more, count, long)
 
-none-in : (nodes : List PageNode) → length nodes ≡ 0 → length (pairs_of_level nodes) ≡ 0
-none-in [] none = refl
-none-in (node ∷ rest) none = let some : suc (length rest) ≡ 0 = none in absurd (omega (arith, some))
-
 -- the names of the level below have as many bytes
 below-sum : (at : Pages) (height : ℕ) (bytes : Deciding) (names : Names) → AreUnder bytes names →
     AreTrees at 0 (suc height) (all_names names) →
@@ -178,7 +165,7 @@ some-same at height pairs trees =
     lt-same (length nodes) (length (pairs_of_level nodes)) (λ some. omega (arith, many, long, some))
     (λ some. elim (cases_lt 0 (length nodes)) [
       | inl more ↦ more
-      | inr none ↦ let no = none-in nodes (omega (arith, none)) in absurd (omega (arith, no, some))
+      | inr none ↦ let no = empty-pairs nodes (omega (arith, none)) in absurd (omega (arith, no, some))
     ])
 
 -- So the names of the level below are known.
@@ -328,7 +315,7 @@ root-trees at half height page bytes two tree = (
   (
     (
       record { held = tree.0.held; is_level = tree.0.is_level; filled = omega arith; counted = tree.0.counted },
-      trees-any at half height (pairs_on at page) tree.1,
+      AreTrees-least at half height (pairs_on at page) tree.1,
     ),
     tt,
   ),

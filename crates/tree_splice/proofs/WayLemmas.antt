@@ -29,6 +29,7 @@ use Rattle.tree_splice.proofs.EndedLemmas.{HasTwo, ended-few, ended-front, ended
 use Rattle.tree_splice.proofs.NearLemmas.{HasBeside, Spot, cut-near, first_in, is_section, last_in}
 use Rattle.tree_splice.proofs.NearLemmas.{leads-up, names-spot, three-parts}
 use Rattle.window_laws.proofs.CountLemmas.{border-number, count_ended-start}
+use Rattle.tree_read.proofs.TreeLemmas.{AreTrees-least}
 
 -- ---- all levels are shown
 
@@ -83,10 +84,6 @@ trees-least at least least2 (suc height) pairs less trees =
         let filled = has.filled in
         record { held = has.held; is_level = has.is_level; filled = omega (arith, filled, less); counted = has.counted }
 
--- and those that need none
-pub trees-any : (at : Pages) (least height : ℕ) (pairs : List Pair) → AreTrees at least height pairs → AreTrees at 0 height pairs
-trees-any at least height pairs trees = trees-least at least 0 height pairs (omega arith) trees
-
 -- ---- one cut after the other
 
 -- the lowest cut has what an exchange needs, and each run leads to the next
@@ -115,7 +112,7 @@ under-led at bytes (suc height) up above trees two near leading =
     let some : 1 ≤ suc height = omega arith in
     let names = below_names up in
     let spot = names-spot bytes up near (two some) in
-    let any = trees-any at 2 (suc height) (all_names names) trees in
+    let any = AreTrees-least at 2 (suc height) (all_names names) trees in
     let cut = cut_below at bytes names in
     under-led at bytes height cut (up ∷ above) (trees-under at 2 height bytes names spot.under trees)
     (λ more. run-two at height bytes names spot.under trees)
@@ -131,7 +128,7 @@ under-levels at bytes (suc height) up above trees two near =
     let some : 1 ≤ suc height = omega arith in
     let names = below_names up in
     let spot = names-spot bytes up near (two some) in
-    let any = trees-any at 2 (suc height) (all_names names) trees in
+    let any = AreTrees-least at 2 (suc height) (all_names names) trees in
     let cut = cut_below at bytes names in
     let nodes = named_on at (pairs_of_level (whole up)) in
     let same : whole cut ≡ nodes = cut-whole at bytes names spot.under ∙ ap (named_on at) (below-all up) in

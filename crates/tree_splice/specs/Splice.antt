@@ -1,5 +1,5 @@
 -- What an exchange in a tree on pages gives, and what it leaves.
-use Rattle.std.specs.Prelude.{◌≡◌, ℕ, ◌+◌, ◌/◌, ◌<◌, ◌≤◌, ◌||◌, max, false, IsTrue, List, []}
+use Rattle.std.specs.Prelude.{◌≡◌, ℕ, ◌+◌, ◌/◌, ◌<◌, ◌≤◌, ◌||◌, max, false, IsTrue, List, [], ◌∷◌}
 use Rattle.std.specs.Prelude.{length, map, take, None, Result, Ok, Err, slice_get, Some}
 use Rattle.fault_count.specs.Counts.{Meter, counted}
 use Rattle.tree_model.specs.declared.entry.Pair.{Pair}
@@ -15,7 +15,7 @@ use Rattle.space_directory.specs.SpaceView.{SpaceView, IsSpace}
 use Rattle.span_store.specs.Held.{Held, page_at, begins, has}
 use Rattle.std.specs.List.{flat_map}
 use Rattle.geometry_model.specs.Numbers.{Numbers}
-use Rattle.superdirectory.specs.Grants.{AreTold, free_sets}
+use Rattle.superdirectory.specs.Grants.{AreTold, IsRunIn, free_sets}
 use Rattle.superdirectory.specs.Parts.{IsLaid}
 use Rattle.superdirectory.specs.Rest.{Frame, Rest, IsOf}
 use Rattle.tree_pages.specs.Levels.{levels_at}
@@ -75,14 +75,21 @@ pub record IsSpliced (f : ℕ) (old new : Pages) (root root' : Root) (from count
   pub uses_of : (page : ℕ) → uses page (map extent_of left) + nodes_on page (levels_at new root')
       ≡ nodes_on page (levels_at old root) + uses page (map extent_of made)
 
--- What is held besides: a span of one page for each page that was made, which nobody had.
+-- What is held besides: a span of one page for each page that was made, which nobody had, and which
+-- was made once.
 pub record HoldsNew (made : List PageRun) (old new : Held) : Type 0 where
+  pub once : (q : ℕ) → uses q (map extent_of made) ≤ 1
   pub others : (q : ℕ) → is_on_pages q (firsts_of made) ≡ false → page_at new q ≡ page_at old q
   pub fresh : (q : ℕ) → IsTrue (is_on_pages q (firsts_of made)) → page_at old q ≡ None
   pub held : (q : ℕ) → IsTrue (is_on_pages q (firsts_of made)) → IsTrue (has new q)
   pub begun : (q : ℕ) → begins new q ≡ (is_on_pages q (firsts_of made) || begins old q)
   pub next : (q : ℕ) → IsTrue (is_on_pages q (firsts_of made)) → IsTrue (has new (q + 1)) →
       IsTrue (begins new (q + 1))
+
+-- each of the pages lies in one of the spaces
+abbrev pub ArePagesIn : Frame → List ℕ → Type 0
+ArePagesIn frame [] = Unit {0}
+ArePagesIn frame (page ∷ pages) = ((space : ℕ) × IsRunIn frame space page 1) × ArePagesIn frame pages
 
 -- the answer without what it brings
 abbrev pub unit_result : {A : Type 0} → Result A SpliceFail → Result Unit SpliceFail

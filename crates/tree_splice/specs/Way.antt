@@ -1,8 +1,7 @@
 -- The way down: levels read with all of their nodes, and nodes that have pairs.
-use Rattle.std.specs.Prelude.{ℕ, suc, ◌≤◌, Bool, List, [], ◌∷◌, length, map, sum_by}
+use Rattle.std.specs.Prelude.{ℕ, suc, ◌≤◌, List, [], ◌∷◌, length, map, sum_by}
 use Rattle.std.specs.Prelude.{nat_eq, if◌then◌else◌}
 use Rattle.std.specs.List.{AllByRecursion}
-use Rattle.fault_count.specs.Counts.{Meter}
 use Rattle.tree_model.specs.declared.entry.Pair.{Pair}
 use Rattle.tree_model.specs.declared.tree.Root.{Root}
 use Rattle.tree_model.specs.Node.{NodeBytes}
@@ -10,10 +9,8 @@ use Rattle.tree_model.specs.Tree.{Pages}
 use Rattle.content_laws.specs.Spelling.{HaveBytes}
 use Rattle.layout_model.specs.Levels.{PageNode, pairs_of_level}
 use Rattle.local_laws.specs.Path.{PathLevel}
-use Rattle.page_cache.specs.Kept.{KeptNodes}
 use Rattle.tree_pages.specs.Levels.{node_on}
 use Rattle.tree_pages.specs.Stored.{top_page}
-use Rattle.tree_read.specs.Search.{KeepsNodes, Uses}
 use Rattle.tree_splice.specs.Remade.{rebuilt}
 use Rattle.tree_splice.specs.declared.remade.Remade.{Remade}
 
@@ -41,12 +38,6 @@ named_on at pairs = map (λ pair. node_on at pair.page) pairs
 abbrev pub lowest_pairs : List PathLevel → List Pair
 lowest_pairs [] = []
 lowest_pairs (level ∷ path) = pairs_of_level level.nodes
-
--- nodes were read: the kept ones stay right, and no page is written
-pub record ReadsNodes (told : Bool) (size : ℕ) (at : Pages) (after : KeptNodes) (old new : Meter)
-    : Type 0 where
-  pub nodes : KeepsNodes told size at after
-  pub uses : Uses old new
 
 -- the nodes of each level of a way
 abbrev pub levels_of : List PathLevel → List (List PageNode)

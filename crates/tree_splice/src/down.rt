@@ -10,11 +10,11 @@ ghost use Rattle.tree_model.specs.Node.{room_of};
 ghost use Rattle.tree_model.specs.Tree.{HasNode, AreTrees, IsTree, bytes_of};
 ghost use Rattle.tree_pages.specs.Levels.{node_on};
 ghost use Rattle.span_store.specs.Held.{bytes_on};
-ghost use Rattle.tree_read.specs.Search.{AsksSearch};
+ghost use Rattle.tree_read.specs.Search.{AsksSearch, ReadsNodes};
 ghost use Rattle.tree_splice.specs.Down.{AreBelow, AreKnown, FindsWay, GoesDown, Names};
 ghost use Rattle.tree_splice.specs.Down.{deciding_bytes};
 ghost use Rattle.tree_splice.specs.Way.{AreSound, HasSomePairs, IsSoundLevel, IsSoundNode};
-ghost use Rattle.tree_splice.specs.Way.{ReadsNodes, named_on};
+ghost use Rattle.tree_splice.specs.Way.{named_on};
 
 use crate::naming::bytes_under;
 use crate::node_run::NodeRun;

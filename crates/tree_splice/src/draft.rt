@@ -13,10 +13,10 @@ ghost use Rattle.tree_model.specs.Node.{room_of};
 ghost use Rattle.tree_model.specs.Tree.{IsTree, bytes_of, entries_of};
 ghost use Rattle.tree_pages.specs.Levels.{levels_at};
 ghost use Rattle.tree_splice.specs.Scratch.{IsPrepared};
-ghost use Rattle.tree_read.specs.Search.{AsksSearch};
+ghost use Rattle.tree_read.specs.Search.{AsksSearch, ReadsNodes};
 ghost use Rattle.tree_splice.specs.Splice.{CanSplice, IsBetween};
 ghost use Rattle.tree_splice.specs.Down.{ShowsWay};
-ghost use Rattle.tree_splice.specs.Way.{AreSound, ReadsNodes};
+ghost use Rattle.tree_splice.specs.Way.{AreSound};
 
 use crate::down::{Way, find_way};
 use crate::failure::SpliceFail;

@@ -95,6 +95,7 @@ pub fn make<P: Port, L: Latches<S = P::S>>(
     ensures lacked { IfOk result (λ r. (q : ℕ) → IsTrue (is_on_pages q (page_numbers r.1.pages))
         → page_at held.now q ≡ None) }
     ensures apart { IfOk result (λ r. ArePagesApart r.1.pages) }
+    ensures home { IfOk result (λ r. AreHomely P.S.tells (L.rest latches.old).frame r.1.pages) }
     ensures sized { IfOk result (λ r. AreAllOf P.S.tells (P.meter port.old).page r.1.pages) }
     ensures prepared { IsPrepared (P.meter port.old).page scratch.new }
     ensures rest { KeepsFrame (L.rest latches.old) (L.rest latches.new) }

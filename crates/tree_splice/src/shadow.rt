@@ -15,8 +15,8 @@ ghost use Rattle.tree_model.specs.Node.{room_of};
 ghost use Rattle.tree_model.specs.Tree.{IsTree, bytes_of, entries_of};
 ghost use Rattle.tree_pages.specs.Levels.{levels_at};
 ghost use Rattle.tree_read.specs.Search.{AsksSearch, KeepsNodes};
-ghost use Rattle.tree_splice.specs.Splice.{HaveGiven, HoldsNew, IsBetween, IsSpliced, WritesAtMost};
-ghost use Rattle.tree_splice.specs.Splice.{firsts_of, single_run};
+ghost use Rattle.tree_splice.specs.Splice.{ArePagesIn, HaveGiven, HoldsNew, IsBetween, IsSpliced};
+ghost use Rattle.tree_splice.specs.Splice.{WritesAtMost, firsts_of, single_run};
 
 use crate::draft::{Draft, prepare};
 use crate::failure::SpliceFail;
@@ -79,6 +79,7 @@ pub fn splice<P: Port, L: Latches<S = P::S>>(
     // What is held, and kept of it.
     ensures held { IfOk result (λ s. HoldsNew s.made held.old held.new) }
     ensures single { IfOk result (λ s. s.made ≡ map single_run (firsts_of s.made)) }
+    ensures home { IfOk result (λ s. ArePagesIn (L.rest latches.old).frame (firsts_of s.made)) }
     ensures refused { OnErr result (held.new.spans ≡ held.old.spans) }
     ensures sized { AllSized P.S.tells (P.meter port.old).page held.new }
     ensures kept { KeepsNodes P.S.tells (P.meter port.old).page (bytes_on held.new) cache.new }

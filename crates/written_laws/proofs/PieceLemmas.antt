@@ -5,6 +5,7 @@ use Rattle.std.proofs.lemmas.Bool.{cases_lt, false≢true}
 use Rattle.std.specs.Prelude.{IsTrue}
 use Rattle.std.specs.List.{AllByRecursion}
 use Rattle.geometry_model.specs.Numbers.{Numbers, IsInRange}
+use Rattle.geometry_model.proofs.NumberLaws.{page-some}
 use Rattle.tree_model.specs.declared.entry.Pair.{Pair}
 use Rattle.tree_model.specs.Content.{run_bytes, segment_bytes}
 use Rattle.tree_model.specs.Tree.{page_count}
@@ -15,7 +16,7 @@ use Rattle.edit_parts.specs.declared.piece.Piece.{Piece}
 use Rattle.edit_parts.specs.declared.piece.Piece.TheVariants.{Old, Given}
 use Rattle.edit_parts.specs.Pieces.{IsFrom, LiesIn, LiesInOne}
 use Rattle.edit_plan.specs.Planned.{IsEntry}
-use Rattle.edit_plan.proofs.EntryLemmas.{entry-few, page-some}
+use Rattle.edit_plan.proofs.EntryLemmas.{entry-few}
 use Rattle.span_store.specs.Held.{AllSized, Held, bytes_on, has}
 use Rattle.seg_bytes.specs.Segments.{HoldsBytes}
 use Rattle.seg_bytes.proofs.Runs.{AreFull-held, length-run_bytes}

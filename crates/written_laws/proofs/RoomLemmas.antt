@@ -5,6 +5,7 @@ use Rattle.std.proofs.lemmas.List.{drop-map, take-map}
 use Rattle.std.proofs.lemmas.List.Sums.{sum_by-cons}
 use Rattle.std.proofs.Math.Nat.{mul-le-mul_right}
 use Rattle.geometry_model.specs.Numbers.{Numbers, IsInRange, space_pages}
+use Rattle.geometry_model.proofs.NumberLaws.{page-some}
 use Rattle.tree_model.specs.Tree.{page_count}
 use Rattle.tree_model.proofs.PageCountLaws.{count-holds}
 use Rattle.layout_model.specs.declared.extent.Extent.{Extent}
@@ -15,7 +16,7 @@ use Rattle.edit_parts.specs.declared.part.Part.{Part}
 use Rattle.edit_parts.specs.declared.part.Part.TheVariants.{Keep, Make}
 use Rattle.edit_parts.specs.Parts.{layout_part, pieces_of}
 use Rattle.edit_parts.specs.Pieces.{pieces_bytes}
-use Rattle.edit_plan.proofs.EntryLemmas.{page-some, space-few}
+use Rattle.edit_plan.proofs.EntryLemmas.{space-few}
 use Rattle.span_store.specs.Held.{Held}
 use Rattle.part_store.specs.Asking.{AreOfAll, AreRowsOf, rows}
 use Rattle.part_bytes.specs.Gathering.{CanGather}

@@ -1,13 +1,14 @@
 use Rattle.std.proofs.Common.{◌≡◌, ℕ, ◌+◌, ◌-◌, ◌*◌, ◌<◌, ◌^◌, List, ap, sym, subst, arith, ◌∙◌}
 use Rattle.std.specs.Prelude.{option_to_list}
 use Rattle.geometry_model.specs.Numbers.{space_pages}
+use Rattle.geometry_model.proofs.NumberLaws.{page-some}
 use Rattle.tree_model.specs.Range.{pairs_of, start_of}
 use Rattle.edit_parts.specs.declared.part.Part.{Part}
 use Rattle.edit_parts.specs.declared.piece.Piece.{Piece}
 use Rattle.edit_parts.specs.Pieces.{piece_bytes}
 use Rattle.edit_plan.specs.Cuts.{IsNumbered}
 use Rattle.edit_plan.specs.Planned.{IsPlan}
-use Rattle.edit_plan.proofs.EntryLemmas.{head-few, head-numbered, page-some, space-some}
+use Rattle.edit_plan.proofs.EntryLemmas.{head-few, head-numbered, space-some}
 use Rattle.edit_plan.proofs.PlanLemmas.{all_of, entries-have, plan-is, put-all}
 use Rattle.edit_plan.proofs.planning.plan.Goals as goal
 

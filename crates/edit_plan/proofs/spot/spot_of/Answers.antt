@@ -1,8 +1,8 @@
 use Rattle.std.proofs.Common.{◌≡◌, ℕ, ◌+◌, ◌-◌, ◌<◌, ◌≤◌, List, length, get_or, sym, subst, arith}
 use Rattle.tree_model.specs.declared.entry.Placed.{Placed}
 use Rattle.tree_model.specs.Range.{pairs_of}
+use Rattle.tree_model.proofs.RangeLemmas.{no_segment}
 use Rattle.edit_plan.specs.Spots.{IsSpot}
-use Rattle.edit_plan.proofs.SpotLemmas.{no_segment}
 use Rattle.edit_plan.proofs.WindowLemmas.{IsFar, far-here, far-next}
 use Rattle.edit_plan.proofs.spot.spot_of.Goals as goal
 

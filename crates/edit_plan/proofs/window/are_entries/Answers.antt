@@ -2,8 +2,9 @@ use Rattle.std.proofs.Common.{sym, subst, ◌∙◌}
 use Rattle.std.specs.List.{AllByRecursion}
 use Rattle.std.proofs.lemmas.Bool.{false≢true}
 use Rattle.tree_model.specs.Range.{pairs_of}
+use Rattle.tree_model.proofs.RangeLemmas.{next-pair}
 use Rattle.edit_plan.specs.Planned.{IsEntry}
-use Rattle.edit_plan.proofs.SpotLemmas.{each-pair, next-pair}
+use Rattle.edit_plan.proofs.SpotLemmas.{each-pair}
 use Rattle.edit_plan.proofs.window.are_entries.Goals as goal
 
 pub returns-then-not-is_entry : goal.returns-then-not-is_entry

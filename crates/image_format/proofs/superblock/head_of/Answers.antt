@@ -1,8 +1,8 @@
 -- The bytes are those of the numbers, one after the other. An order is at most 14.
 use Rattle.std.proofs.Common.{refl, arith}
 use Rattle.image_model.specs.Super.{super_bytes}
-use Rattle.page_port.proofs.GeometryLaws.{order-high}
 use Rattle.image_format.proofs.superblock.head_of.Goals as goal
+use Rattle.geometry_model.proofs.NumberLaws.{order-high}
 
 pub overflow_cast-order : goal.overflow_cast-order
 overflow_cast-order c = omega (arith, order-high c.args.geometry.now c.page.ensures.range, c.order-order.ensures)

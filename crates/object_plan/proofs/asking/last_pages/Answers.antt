@@ -1,7 +1,8 @@
 use Rattle.std.proofs.Common.{◌<◌, ◌-◌, ◌^◌, length, get_or, ap, sym, arith, ◌∙◌}
 use Rattle.tree_model.specs.declared.entry.Pair.{Pair}
 use Rattle.tree_model.specs.Tree.{page_count}
-use Rattle.edit_plan.proofs.SpotLemmas.{each-pair, no_segment}
+use Rattle.tree_model.proofs.RangeLemmas.{no_segment}
+use Rattle.edit_plan.proofs.SpotLemmas.{each-pair}
 use Rattle.object_plan.proofs.PackedLemmas.{last-of-window}
 use Rattle.object_plan.proofs.CodeLemmas.{few-pages}
 use Rattle.object_plan.proofs.asking.last_pages.Goals as goal

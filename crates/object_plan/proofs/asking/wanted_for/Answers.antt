@@ -2,9 +2,9 @@ use Rattle.std.proofs.Common.{ℕ, ap, arith}
 use Rattle.tree_model.specs.Range.{pairs_of}
 use Rattle.tree_model.specs.Tree.{page_count}
 use Rattle.layout_model.specs.Plan.{last_entry}
-use Rattle.edit_plan.proofs.EntryLemmas.{page-some}
 use Rattle.object_plan.proofs.CodeLemmas.{last-fits}
 use Rattle.object_plan.proofs.asking.wanted_for.Goals as goal
+use Rattle.geometry_model.proofs.NumberLaws.{page-some}
 
 pub requests_for-requires-clause-last : goal.requests_for-requires-clause-last
 requests_for-requires-clause-last c =

@@ -1,8 +1,9 @@
 use Rattle.std.proofs.Common.{◌+◌, ◌-◌, ◌^◌, ◌<◌, List, [], ◌∷◌, ◌++◌, length, get_or, refl, ap, arith, ◌∙◌}
 use Rattle.tree_model.specs.declared.entry.Pair.{Pair}
+use Rattle.tree_model.proofs.RangeLemmas.{no_segment}
 use Rattle.edit_parts.specs.declared.part.Part.{Part}
 use Rattle.edit_parts.specs.declared.part.Part.TheVariants.{Keep}
-use Rattle.edit_plan.proofs.SpotLemmas.{each-pair, no_segment}
+use Rattle.edit_plan.proofs.SpotLemmas.{each-pair}
 use Rattle.object_plan.proofs.PackedLemmas.{is-extended}
 use Rattle.object_plan.proofs.SideLemmas.{last-bytes}
 use Rattle.object_plan.proofs.plan_on.plan_extended.Goals as goal

@@ -1,8 +1,8 @@
 use Rattle.std.proofs.Common.{◌<◌, ◌-◌, length, get_or, inl, inr, sym, arith, ◌∙◌}
 use Rattle.std.proofs.lemmas.Bool.{cases_lt, le-leb, lt-leb}
-use Rattle.edit_plan.proofs.SpotLemmas.{no_segment}
 use Rattle.object_plan.proofs.SideLemmas.{after-none, after-tested}
 use Rattle.object_plan.proofs.sides.has_after.Goals as goal
+use Rattle.tree_model.proofs.RangeLemmas.{no_segment}
 
 pub returns : goal.returns
 returns c =

@@ -1,7 +1,7 @@
 use Rattle.std.proofs.Common.{◌+◌, List, [], ◌∷◌, ◌++◌, drop, get_or, sym, ap, ◌∙◌, append_assoc}
 use Rattle.tree_model.specs.declared.entry.Pair.{Pair}
 use Rattle.tree_model.specs.Range.{pairs_of}
-use Rattle.edit_plan.proofs.SpotLemmas.{next-pair, no_segment}
+use Rattle.tree_model.proofs.RangeLemmas.{no_segment, next-pair}
 use Rattle.object_plan.proofs.sides.pairs_in.Goals as goal
 
 pub loop-segment-preserved : goal.loop-segment-preserved

@@ -2,7 +2,8 @@ use Rattle.std.proofs.Common.{sym, subst, ◌∙◌}
 use Rattle.std.specs.List.{AllByRecursion}
 use Rattle.std.proofs.lemmas.Bool.{false≢true}
 use Rattle.tree_model.specs.Range.{pairs_of}
-use Rattle.edit_plan.proofs.SpotLemmas.{each-pair, next-pair}
+use Rattle.tree_model.proofs.RangeLemmas.{next-pair}
+use Rattle.edit_plan.proofs.SpotLemmas.{each-pair}
 use Rattle.object_plan.specs.Planned.{IsHeldEntry}
 use Rattle.object_plan.proofs.usable.are_held.Goals as goal
 

@@ -2,9 +2,9 @@ use Rattle.std.proofs.Common.{◌-◌, ap, arith}
 use Rattle.std.proofs.lemmas.Bool.{false≢true}
 use Rattle.geometry_model.specs.Pages.{first_page}
 use Rattle.geometry_model.proofs.PageLaws.{IsPlace-in_run, IsPlace-unique}
+use Rattle.geometry_model.proofs.NumberLaws.{page-some}
 use Rattle.tree_model.specs.Tree.{page_count}
 use Rattle.tree_model.proofs.PageCountLaws.{count-some}
-use Rattle.edit_plan.proofs.EntryLemmas.{page-some}
 use Rattle.object_plan.proofs.usable.is_held.Goals as goal
 
 pub returns-in_default : goal.returns-in_default

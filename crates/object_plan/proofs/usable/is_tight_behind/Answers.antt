@@ -2,8 +2,8 @@ use Rattle.std.proofs.Common.{◌≤◌, ◌-◌, length, inl, inr, arith}
 use Rattle.std.proofs.lemmas.Bool.{cases_lt, lt-ltb, ltb-true}
 use Rattle.object_plan.proofs.SideLemmas.{behind-loose, behind-tight}
 use Rattle.std.proofs.Common.{get_or}
-use Rattle.edit_plan.proofs.SpotLemmas.{no_segment}
 use Rattle.object_plan.proofs.usable.is_tight_behind.Goals as goal
+use Rattle.tree_model.proofs.RangeLemmas.{no_segment}
 
 pub returns : goal.returns
 returns c =

@@ -3,8 +3,8 @@ use Rattle.std.specs.Prelude.{IfSome, Option}
 use Rattle.tree_model.specs.Tree.{entries_of}
 use Rattle.span_store.specs.Held.{bytes_on}
 use Rattle.object_plan.specs.Reading.{found_where}
-use Rattle.object_plan.proofs.ReadLemmas.{reads-none}
 use Rattle.object_plan.proofs.window.find_at.Goals as goal
+use Rattle.tree_read.proofs.MeterLemmas.{reads-none}
 
 pub find-requires-clause-inside : goal.find-requires-clause-inside
 find-requires-clause-inside g c =

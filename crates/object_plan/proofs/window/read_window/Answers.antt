@@ -9,10 +9,11 @@ use Rattle.tree_model.specs.Range.{pairs_of, placed, start_of}
 use Rattle.tree_model.specs.Tree.{entries_of}
 use Rattle.tree_pages.proofs.TreeLemmas.{tree-bytes}
 use Rattle.span_store.specs.Held.{bytes_on}
-use Rattle.tree_read.specs.Search.{EndsInside}
-use Rattle.object_plan.specs.Reading.{ReadsNodes, place_before, place_behind}
+use Rattle.tree_read.specs.Search.{EndsInside, ReadsNodes}
+use Rattle.tree_read.proofs.MeterLemmas.{reads-none}
+use Rattle.object_plan.specs.Reading.{place_before, place_behind}
 use Rattle.object_plan.proofs.ReadLemmas.{asks-then, before-inside, behind-inside, fault-same, few-read}
-use Rattle.object_plan.proofs.ReadLemmas.{no-fault, no-window, reads-none, reads-then, window-read}
+use Rattle.object_plan.proofs.ReadLemmas.{no-fault, no-window, reads-then, window-read}
 use Rattle.object_plan.proofs.window.read_window.Goals as goal
 
 -- ---- an object of no byte

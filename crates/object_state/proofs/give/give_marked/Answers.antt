@@ -1,13 +1,20 @@
 -- A run is popped, and its pages go.
 use Rattle.page_set.specs.Words.{in_set}
 use Rattle.object_state.proofs.GiveLemmas.{marks-more, marks-all}
-use Rattle.object_state.proofs.MarkLemmas.{whole-run}
+use Rattle.object_state.proofs.MarkLemmas.{whole-lies, whole-run}
 use Rattle.object_state.proofs.give.give_marked.Goals as goal
 
 pub give_run-requires-clause-whole : goal.give_run-requires-clause-whole
 give_run-requires-clause-whole g c =
     whole-run c.args.geometry.now c.loop-run.held (in_set c.loop-run.marked) c.in-Some.run'.first c.in-Some.run'.pages
     c.loop-run.invariant.on_data c.loop-run.invariant.marked c.in-Some.ensures.first
+
+pub give_run-requires-clause-lies : goal.give_run-requires-clause-lies
+give_run-requires-clause-lies g c =
+    whole-lies c.args.geometry.now c.loop-run.held (record { page = c.in-Some.run'.first; pages = c.in-Some.run'.pages })
+    c.loop-run.invariant.on_data
+    (whole-run c.args.geometry.now c.loop-run.held (in_set c.loop-run.marked) c.in-Some.run'.first c.in-Some.run'.pages
+    c.loop-run.invariant.on_data c.loop-run.invariant.marked c.in-Some.ensures.first)
 
 pub loop-run-preserved : goal.loop-run-preserved
 loop-run-preserved g c =

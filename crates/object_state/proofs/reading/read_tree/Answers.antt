@@ -7,11 +7,11 @@ use Rattle.std.proofs.lemmas.Bool.{false≢true}
 use Rattle.tree_model.specs.declared.entry.Placed.{Placed}
 use Rattle.object_body.specs.declared.fails.LookFail.TheVariants as look
 use Rattle.object_state.specs.Reads.{IsHeldSegment, ReadsTree}
-use Rattle.object_body.proofs.HeldTreeLemmas.{some-bytes}
 use Rattle.object_state.proofs.TreeReadLemmas.{IsFetched, IsReadable, bytes-as, fetch-done, fetch-failed, found-held, holds-all}
 use Rattle.object_state.proofs.TreeReadLemmas.{memory-cause, read-blamed}
 use Rattle.object_state.proofs.TreeReadLemmas.{out-only, read-nothing, reads-as, search-ends, searched-of}
 use Rattle.object_state.proofs.reading.read_tree.Goals as goal
+use Rattle.geometry_model.proofs.NumberLaws.{page-some}
 
 pub overflow_add-at : goal.overflow_add-at
 overflow_add-at g c = omega (arith, c.requires.inside)
@@ -27,7 +27,7 @@ returns-then-len-eq0 g c = record {
 pub returns-in-Err-Fault : goal.returns-in-Err-Fault
 returns-in-Err-Fault g c =
     let readable : IsReadable g.P.S.Span.tells c.args.geometry.now c.args.held.now c.args.root.now c.args.at c.args.len = record {
-      some = some-bytes c.args.geometry.now c.page-page.ensures.range;
+      some = page-some c.args.geometry.now c.page-page.ensures.range;
       inside = c.requires.inside;
       sized = c.requires.sized;
       told = c.requires.told;
@@ -50,7 +50,7 @@ returns-in-Err-Fault g c =
 pub returns-in-Err-Memory : goal.returns-in-Err-Memory
 returns-in-Err-Memory g c =
     let readable : IsReadable g.P.S.Span.tells c.args.geometry.now c.args.held.now c.args.root.now c.args.at c.args.len = record {
-      some = some-bytes c.args.geometry.now c.page-page.ensures.range;
+      some = page-some c.args.geometry.now c.page-page.ensures.range;
       inside = c.requires.inside;
       sized = c.requires.sized;
       told = c.requires.told;
@@ -70,7 +70,7 @@ returns-then-not-are_held g c =
     let n = c.args.geometry.now in
     let held = c.args.held.now in
     let readable : IsReadable g.P.S.Span.tells n held c.args.root.now c.args.at c.args.len = record {
-      some = some-bytes n c.page-page.ensures.range;
+      some = page-some n c.page-page.ensures.range;
       inside = c.requires.inside;
       sized = c.requires.sized;
       told = c.requires.told;
@@ -90,7 +90,7 @@ returns-then-not-are_held g c =
 pub returns-in_default : goal.returns-in_default
 returns-in_default g c =
     let readable : IsReadable g.P.S.Span.tells c.args.geometry.now c.args.held.now c.args.root.now c.args.at c.args.len = record {
-      some = some-bytes c.args.geometry.now c.page-page.ensures.range;
+      some = page-some c.args.geometry.now c.page-page.ensures.range;
       inside = c.requires.inside;
       sized = c.requires.sized;
       told = c.requires.told;
@@ -108,7 +108,7 @@ returns-in_default g c =
 pub returns-in_default-vec : goal.returns-in_default-vec
 returns-in_default-vec g c =
     let readable : IsReadable g.P.S.Span.tells c.args.geometry.now c.args.held.now c.args.root.now c.args.at c.args.len = record {
-      some = some-bytes c.args.geometry.now c.page-page.ensures.range;
+      some = page-some c.args.geometry.now c.page-page.ensures.range;
       inside = c.requires.inside;
       sized = c.requires.sized;
       told = c.requires.told;
@@ -135,7 +135,7 @@ read_bytes-requires-clause-held g c =
 pub returns-in-Ok-read_bytes : goal.returns-in-Ok-read_bytes
 returns-in-Ok-read_bytes g c =
     let readable : IsReadable g.P.S.Span.tells c.args.geometry.now c.args.held.now c.args.root.now c.args.at c.args.len = record {
-      some = some-bytes c.args.geometry.now c.page-page.ensures.range;
+      some = page-some c.args.geometry.now c.page-page.ensures.range;
       inside = c.requires.inside;
       sized = c.requires.sized;
       told = c.requires.told;
@@ -170,7 +170,7 @@ returns-in-Ok-read_bytes g c =
 pub returns : goal.returns
 returns g c =
     let readable : IsReadable g.P.S.Span.tells c.args.geometry.now c.args.held.now c.args.root.now c.args.at c.args.len = record {
-      some = some-bytes c.args.geometry.now c.page-page.ensures.range;
+      some = page-some c.args.geometry.now c.page-page.ensures.range;
       inside = c.requires.inside;
       sized = c.requires.sized;
       told = c.requires.told;

@@ -1,8 +1,8 @@
 -- An order above 14 needs more than half of the largest page.
 use Rattle.std.proofs.Common.{arith, ◌≤◌}
-use Rattle.page_port.proofs.GeometryLaws.{order-at_most}
 use Rattle.page_port.proofs.geometry.is_order.Goals as goal
 use Rattle.page_port.proofs.geometry.is_order.Goals.{then-order-lt4-via-then-order-lt4, then-order-lt4-via-else-order-lt4+then-order-gt14}
+use Rattle.geometry_model.proofs.NumberLaws.{order-at_most}
 
 pub returns-then-order-lt4-clause-exact : goal.returns-then-order-lt4-clause-exact
 returns-then-order-lt4-clause-exact c = (

@@ -5,10 +5,11 @@ use Rattle.std.proofs.lemmas.List.{length-take-le}
 use Rattle.tree_model.specs.declared.entry.Placed.{Placed}
 use Rattle.tree_model.specs.Tree.{page_count}
 use Rattle.tree_model.specs.Range.{start_of}
+use Rattle.tree_model.proofs.RangeLemmas.{no_segment}
 use Rattle.span_store.specs.Held.{bytes_on}
 use Rattle.seg_bytes.specs.Segments.{HoldsBytes}
 use Rattle.seg_bytes.proofs.Runs.{AreFull-held, length-segment}
-use Rattle.seg_bytes.proofs.Reading.{IsReading-turn, IsReading-stop, each_segment, no_segment}
+use Rattle.seg_bytes.proofs.Reading.{IsReading-turn, IsReading-stop, each_segment}
 use Rattle.seg_bytes.proofs.read.read_bytes.Goals as goal
 
 pub returns-in_err-read_here-clause-reads : goal.returns-in_err-read_here-clause-reads

@@ -2,8 +2,9 @@
 use Rattle.std.proofs.Common.{◌≡◌, ◌*◌, ◌/◌, ◌%◌, ◌^◌, ℕ, ap, sym, ◌∙◌, arith}
 use Rattle.std.proofs.lemmas.Bool.{false≢true}
 use Rattle.block_model.specs.Directory.{directory_page}
-use Rattle.space_directory.proofs.DirectoryPages.{shifted, eights, bits_length, wrong_size, read_size, not_directory}
+use Rattle.space_directory.proofs.DirectoryPages.{shifted, bits_length, wrong_size, read_size, not_directory}
 use Rattle.space_directory.proofs.directory.read_map.Goals as goal
+use Rattle.base_laws.proofs.NumberLaws.{eights}
 
 pub returns-then-page-size-clause-bad : goal.returns-then-page-size-clause-bad
 returns-then-page-size-clause-bad c = λ _. wrong_size c.args.page.now c.args.size c.args.space c.args.order

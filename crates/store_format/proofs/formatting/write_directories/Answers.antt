@@ -2,9 +2,9 @@
 use Rattle.std.proofs.Common.{◌≡◌, ℕ, ◌*◌, ◌/◌, length, replicate, true, sym, ap, subst, ◌∙◌, arith}
 use Rattle.std.proofs.lemmas.Bool.{false≢true}
 use Rattle.base_laws.proofs.ResultLaws.{always_on_err}
+use Rattle.base_laws.proofs.NumberLaws.{eights}
 use Rattle.block_model.specs.Directory.{directory_page as directory_bytes}
 use Rattle.fault_count.proofs.CountLaws.{IsUsed-then}
-use Rattle.space_directory.proofs.DirectoryPages.{eights}
 use Rattle.store_format.specs.Rows.{row_page, KeepsPagesBut}
 use Rattle.store_format.specs.Blank.{blank_directory}
 use Rattle.store_format.proofs.WritingLemmas.{one-more, cut-at-directory, same-shape}

@@ -3,7 +3,7 @@ use Rattle.std.proofs.Common.{◌≡◌, ℕ, ◌↔◌, Bool, sym, ◌∙◌, i
 use Rattle.std.specs.Prelude.{IsTrue}
 use Rattle.std.proofs.lemmas.Bool.{cases_Bool, false_from_ne_true, true≢false}
 use Rattle.span_store.specs.Held.{HoldsRun, Held, has}
-use Rattle.tree_read.proofs.HeldLemmas.{run_of_one}
+use Rattle.span_store.proofs.Runs.{run_of_one}
 use Rattle.tree_read.proofs.page.has_page.Goals as goal
 
 same : (held : Held) (page : ℕ) (b : Bool) → (IsTrue b ↔ HoldsRun held page 1) → b ≡ has held page

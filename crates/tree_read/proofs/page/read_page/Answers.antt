@@ -5,9 +5,9 @@ use Rattle.std.proofs.Math.Nat.{mod_self}
 use Rattle.geometry_model.proofs.NumberLaws.{page_size-low}
 use Rattle.tree_model.specs.Content.{run_bytes}
 use Rattle.span_store.specs.Held.{HoldsRun, bytes_on}
-use Rattle.tree_read.proofs.HeldLemmas.{run_of_one}
-use Rattle.tree_read.proofs.MeterLemmas.{one_page}
+use Rattle.span_store.proofs.Runs.{run_of_one}
 use Rattle.tree_read.proofs.page.read_page.Goals as goal
+use Rattle.base_laws.proofs.NumberLaws.{one_page}
 
 pub read_run-requires-clause-whole : goal.read_run-requires-clause-whole
 read_run-requires-clause-whole g c =

@@ -1,8 +1,9 @@
 use Rattle.std.proofs.Common.{◌≡◌, IsTrue, take}
 use Rattle.std.specs.List.{AllByRecursion}
 use Rattle.span_store.specs.Held.{bytes_on}
-use Rattle.tree_splice.specs.Way.{IsSoundNode, ReadsNodes, named_on}
+use Rattle.tree_splice.specs.Way.{IsSoundNode, named_on}
 use Rattle.tree_splice.proofs.down.nodes_named.Given as goal
+use Rattle.tree_read.specs.Search.{ReadsNodes}
 
 abbrev pub invariant-loop-pair : goal.invariant-loop-pair
 invariant-loop-pair g l = record {

@@ -19,6 +19,7 @@ use Rattle.tree_splice.proofs.EndLemmas.{
   Makes,
   can-as,
   end-held,
+  end-home,
   end-kept,
   end-single,
   end-stand,
@@ -216,6 +217,11 @@ returns-clause-held g c =
 
 pub returns-clause-single : goal.returns-clause-single
 returns-clause-single g c = end-single c.in-Ok.made.0.made (page_numbers c.in-Ok.made.1.pages) c.in-Ok.ensures.made
+
+pub returns-clause-home : goal.returns-clause-home
+returns-clause-home g c =
+    end-home g.P.S.Span.tells (g.L.Hints.rest c.args.latches.now).frame c.in-Ok.made.0.made c.in-Ok.made.1.pages c.in-Ok.ensures.made
+    c.in-Ok.ensures.home
 
 pub returns-clause-kept : goal.returns-clause-kept
 returns-clause-kept g c =

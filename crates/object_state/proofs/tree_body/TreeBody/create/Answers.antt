@@ -10,8 +10,8 @@ use Rattle.object_state.specs.Edits.{MakesTreeEdit}
 use Rattle.object_state.specs.Keeps.{KeepsTreeBody}
 use Rattle.object_state.specs.Tree.{TreeView}
 use Rattle.object_state.proofs.CreateLemmas.{create-absent, create-keeps, create-there, created_view, given-suits}
-use Rattle.object_body.proofs.HeldTreeLemmas.{some-bytes}
 use Rattle.object_state.proofs.tree_body.TreeBody.create.Goals as goal
+use Rattle.geometry_model.proofs.NumberLaws.{page-some}
 
 pub returns-then-is_some : goal.returns-then-is_some
 returns-then-is_some g c =
@@ -30,7 +30,7 @@ returns-then-is_some g c =
     let there = ap (λ (o : Option Root). entry_of o inside.working.threshold) root.1 in
     subst (λ (w : TreeView). MakesTreeEdit g.P.S.Span.tells (Create c.args.threshold) Exists w w) c.self.view_is
     (create-there g.P.S.Span.tells v (record { root = root.0; threshold = inside.working.threshold }) c.args.threshold
-    (some-bytes inside.geometry c.page-page.ensures.range) there c.self.invariant)
+    (page-some inside.geometry c.page-page.ensures.range) there c.self.invariant)
 
 pub invariant_of-self : goal.invariant_of-self
 invariant_of-self g c =
@@ -73,4 +73,4 @@ returns g c =
     subst (λ (w : TreeView). MakesTreeEdit g.P.S.Span.tells (Create c.args.threshold) Done w (created_view c.given-threshold.result v))
     c.self.view_is
     (subst (λ (t : ℕ). MakesTreeEdit g.P.S.Span.tells (Create c.args.threshold) Done v (created_view t v)) (sym c.given-threshold.ensures)
-    (create-absent g.P.S.Span.tells v c.args.threshold (some-bytes inside.geometry c.page-page.ensures.range) absent no_spare kept))
+    (create-absent g.P.S.Span.tells v c.args.threshold (page-some inside.geometry c.page-page.ensures.range) absent no_spare kept))

@@ -8,8 +8,8 @@ use Rattle.object_state.specs.Kind.{tree_may_read}
 use Rattle.object_state.specs.Tree.{TreeView, tree_form, tree_contents}
 use Rattle.object_body.specs.Form.{HaveLengths}
 use Rattle.object_state.proofs.LookLemmas.{cached-keeps, told-read, tree-reads, with_cache, within-here}
-use Rattle.object_body.proofs.HeldTreeLemmas.{some-bytes}
 use Rattle.object_state.proofs.tree_body.TreeBody.read.Goals as goal
+use Rattle.geometry_model.proofs.NumberLaws.{page-some}
 
 pub read_tree-requires-clause-told : goal.read_tree-requires-clause-told
 read_tree-requires-clause-told g c =
@@ -65,6 +65,6 @@ returns g c =
           (tree_form w) (tree_form (with_cache v c.read_tree.new.cache)) (tree_contents w)
           (tree_contents (with_cache v c.read_tree.new.cache)) old new) c.self.view_is
           (tree-reads g.P.S.Span.tells v present c.read_tree.new.cache c.args.at c.args.len old new c.read_tree.result
-          (some-bytes inside.geometry c.page-page.ensures.range) c.self.invariant
+          (page-some inside.geometry c.page-page.ensures.range) c.self.invariant
           is fits c.read_tree.ensures.read);
     }

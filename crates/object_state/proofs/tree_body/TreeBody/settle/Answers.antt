@@ -4,15 +4,15 @@ use Rattle.layout_model.specs.declared.extent.Extent.{Extent}
 use Rattle.object_body.specs.Calls.{IsBodyEnd}
 use Rattle.object_body.specs.Form.{settled_form, settled_contents}
 use Rattle.object_body.specs.Stored.{entry_of}
-use Rattle.object_state.specs.Ends.{LeavesNodes, LetsGo, none_marked}
+use Rattle.give_back.specs.Giving.{LeavesNodes, LetsGo, gives}
 use Rattle.object_state.specs.Keeps.{KeepsTreeBody, in_spare}
 use Rattle.object_state.specs.Edits.{tree_stage}
 use Rattle.object_state.specs.Tree.{TreeView, tree_form, tree_contents}
 use Rattle.object_body.specs.Form.{HaveLengths}
 use Rattle.object_state.proofs.EndLemmas.{end-of, settle-ended, settled-end, settled-keeps, settled_view}
 use Rattle.object_state.proofs.LeftLemmas.{left-on_data}
-use Rattle.object_body.proofs.HeldTreeLemmas.{some-bytes}
 use Rattle.object_state.proofs.tree_body.TreeBody.settle.Goals as goal
+use Rattle.geometry_model.proofs.NumberLaws.{page-some}
 
 pub give_marked-requires-clause-on_data : goal.give_marked-requires-clause-on_data
 give_marked-requires-clause-on_data g c =
@@ -35,7 +35,7 @@ invariant_of-self g c =
     } in
     let left = subst (λ (o : Option Extent). LeavesNodes tells v.numbers.page (in_spare o) v.held c.give_spare.new.held v.cache
     c.give_spare.new.cache) c.take-spare.ensures.value c.give_spare.ensures.left in
-    let went = subst (λ (o : Option Extent). LetsGo v.numbers (in_spare o) none_marked (g.L.Hints.rest c.args.latches.now)
+    let went = subst (λ (o : Option Extent). LetsGo v.numbers (gives (in_spare o)) (g.L.Hints.rest c.args.latches.now)
     (g.L.Hints.rest c.give_spare.new.latches) (g.L.Hints.trace c.args.latches.now) (g.L.Hints.trace c.give_spare.new.latches))
     c.take-spare.ensures.value c.give_spare.ensures.given in
     let ended = settle-ended tells v c.give_spare.new.held c.give_marked.new.held c.give_spare.new.cache c.give_marked.new.cache
@@ -72,7 +72,7 @@ returns g c =
     let after = g.L.Hints.trace c.give_marked.new.latches in
     let left = subst (λ (o : Option Extent). LeavesNodes tells v.numbers.page (in_spare o) v.held c.give_spare.new.held v.cache
     c.give_spare.new.cache) c.take-spare.ensures.value c.give_spare.ensures.left in
-    let went = subst (λ (o : Option Extent). LetsGo v.numbers (in_spare o) none_marked old (g.L.Hints.rest c.give_spare.new.latches) before
+    let went = subst (λ (o : Option Extent). LetsGo v.numbers (gives (in_spare o)) old (g.L.Hints.rest c.give_spare.new.latches) before
     (g.L.Hints.trace c.give_spare.new.latches)) c.take-spare.ensures.value c.give_spare.ensures.given in
     let ended = settle-ended tells v c.give_spare.new.held c.give_marked.new.held c.give_spare.new.cache c.give_marked.new.cache
     c.new.result c.new-2.result old (g.L.Hints.rest c.give_spare.new.latches) new before (g.L.Hints.trace c.give_spare.new.latches)
@@ -88,5 +88,5 @@ returns g c =
           (subst (λ (o : Option Extent). IsBodyEnd tells HaveLengths (settled_form (tree_form v)) (settled_contents (tree_contents v))
           (tree_stage v old before) (tree_stage (record settled { spare = o }) new after)) (sym c.take-spare.ensures.after)
           (settled-end tells v c.give_marked.new.held c.give_marked.new.cache c.new.result c.new-2.result old new before after
-          (some-bytes inside.geometry c.page-page.ensures.range) c.self.invariant ended));
+          (page-some inside.geometry c.page-page.ensures.range) c.self.invariant ended));
     }

@@ -4,8 +4,8 @@ use Rattle.object_body.specs.Stored.{entry_of}
 use Rattle.object_state.specs.Edits.{tree_stage}
 use Rattle.object_state.specs.Tree.{TreeView, tree_form, tree_contents}
 use Rattle.object_state.proofs.EndLemmas.{end-of, undo-ended, undone-end, undone-keeps, undone_view}
-use Rattle.object_body.proofs.HeldTreeLemmas.{some-bytes}
 use Rattle.object_state.proofs.tree_body.TreeBody.undo.Goals as goal
+use Rattle.geometry_model.proofs.NumberLaws.{page-some}
 
 pub invariant_of-self : goal.invariant_of-self
 invariant_of-self g c =
@@ -65,5 +65,5 @@ returns g c =
       end = end-of tells v c.args.self.now (λ x. undone_form (tree_form x)) (λ x. undone_contents (tree_contents x))
           (tree_stage undone new after) old before c.self.view_is
           (undone-end tells v c.give_marked.new.held c.give_marked.new.cache c.new.result c.new-2.result old new before after
-          (some-bytes inside.geometry c.page-page.ensures.range) c.self.invariant ended);
+          (page-some inside.geometry c.page-page.ensures.range) c.self.invariant ended);
     }

@@ -1,7 +1,6 @@
 -- The order of a store's spaces is at most 14, and a directory fits a page.
 use Rattle.std.proofs.Common.{ℕ, ◌*◌, ◌^◌, ◌≤◌, sym, subst, arith}
-use Rattle.geometry_model.proofs.NumberLaws.{page_size-low, page_size-high}
-use Rattle.page_port.proofs.GeometryLaws.{order-high}
+use Rattle.geometry_model.proofs.NumberLaws.{page_size-low, page_size-high, order-high}
 use Rattle.space_directory.proofs.space.Space.read_page.Goals as goal
 
 pub overflow_cast-order : goal.overflow_cast-order

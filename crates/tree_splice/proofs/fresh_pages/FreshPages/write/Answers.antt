@@ -2,7 +2,7 @@
 use Rattle.std.proofs.Common.{◌≡◌, ℕ, ◌/◌, ◌%◌, length, ap, refl, sym, ◌∙◌, arith}
 use Rattle.std.proofs.Math.Nat.{mod_self}
 use Rattle.base_laws.proofs.ResultLaws.{on_ok}
-use Rattle.tree_read.proofs.MeterLemmas.{one_page}
+use Rattle.base_laws.proofs.NumberLaws.{one_page}
 use Rattle.tree_splice.specs.Fresh.{FreshList}
 use Rattle.tree_splice.proofs.SegmentLemmas.{
   all-set,

@@ -1,0 +1,4 @@
+pub mod Holding
+pub mod Spaces
+pub mod Asking
+pub mod Entries

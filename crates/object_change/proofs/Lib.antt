@@ -1,0 +1,16 @@
+pub mod PageLemmas
+pub mod SpareLemmas
+pub mod RowLemmas
+pub mod HeldLemmas
+pub mod NodeLemmas
+pub mod PutLemmas
+pub mod WriteLemmas
+pub mod LaidLemmas
+pub mod StayLemmas
+pub mod ChangeLemmas
+pub mod ExchangeLemmas
+pub mod MakeLemmas
+pub mod ToldLemmas
+pub mod TellLemmas
+pub mod WholeLemmas
+pub mod FinishLemmas

@@ -1,0 +1,4 @@
+pub mod Changed
+pub mod Scene
+pub mod Steps
+pub mod Calls
