@@ -1,13 +1,13 @@
-/* Counts a program's positioned reads and writes, the bytes that it asks to write, and its allocations, for
- * bench/calls.py. Built as a shared library and loaded before the program's others, it writes the three numbers to
- * the standard error stream at the end.
+/* Counts a program's positioned reads and the bytes that it asks to read, its reads and writes together, the bytes that
+ * it asks to write, and its allocations, for bench/calls.py and bench/objects.py. Built as a shared library and loaded
+ * before the program's others, it writes the five numbers to the standard error stream at the end.
  */
 #define _GNU_SOURCE
 #include <dlfcn.h>
 #include <stdio.h>
 #include <sys/types.h>
 
-static unsigned long calls, written, allocations;
+static unsigned long reads, read_bytes, calls, written, allocations;
 
 #define NEXT(name) ((__typeof__(&name))dlsym(RTLD_NEXT, #name))
 
@@ -48,6 +48,8 @@ extern ssize_t pread64(int file, void *out, size_t size, off64_t at);
 extern ssize_t pwrite64(int file, const void *bytes, size_t size, off64_t at);
 
 ssize_t pread(int file, void *out, size_t size, off_t at) {
+    reads++;
+    read_bytes += size;
     calls++;
     return NEXT(pread)(file, out, size, at);
 }
@@ -59,6 +61,8 @@ ssize_t pwrite(int file, const void *bytes, size_t size, off_t at) {
 }
 
 ssize_t pread64(int file, void *out, size_t size, off64_t at) {
+    reads++;
+    read_bytes += size;
     calls++;
     return NEXT(pread64)(file, out, size, at);
 }
@@ -70,5 +74,5 @@ ssize_t pwrite64(int file, const void *bytes, size_t size, off64_t at) {
 }
 
 __attribute__((destructor)) static void tell(void) {
-    fprintf(stderr, "%lu %lu %lu\n", calls, written, allocations);
+    fprintf(stderr, "%lu %lu %lu %lu %lu\n", reads, read_bytes, calls, written, allocations);
 }

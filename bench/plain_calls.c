@@ -1,7 +1,10 @@
-/* The plain program that bench/calls.py compares with: the calls of crates/bench_space by hand.
+/* The plain program that bench/calls.py and bench/objects.py compare with: the calls of crates/bench_space by hand, and
+ * reads and writes at random places of a file.
  *
  *   plain_calls grants PAGES ROUNDS    a tree of masks over 16,384 pages
  *   plain_calls writes PAGES ROUNDS [BYTES]    pwrite to bench_space.img in this folder, pages of so many bytes
+ *   plain_calls places READS PAGES WRITES PAGES SIZE ROUNDS    so many calls of so many pages each, in a file of SIZE pages;
+ *                                              it prints `filled` when the file is there
  */
 #include <fcntl.h>
 #include <stdint.h>
@@ -75,9 +78,47 @@ static int writes(uint32_t n, uint32_t rounds, size_t page) {
     return close(file);
 }
 
+static uint32_t drawn(uint64_t *draw, uint32_t below) {
+    *draw = *draw * 6364136223846793005u + 1442695040888963407u;
+    return (uint32_t)((*draw >> 32) % below);
+}
+
+static int places(char **words) {
+    uint32_t reads = (uint32_t)atoi(words[0]), wide = (uint32_t)atoi(words[1]);
+    uint32_t writes = (uint32_t)atoi(words[2]), broad = (uint32_t)atoi(words[3]);
+    uint32_t size = (uint32_t)atoi(words[4]), rounds = (uint32_t)atoi(words[5]);
+    uint32_t most = wide > broad ? wide : broad;
+    uint64_t draw = 1;
+    int file = open("plain_calls.img", O_RDWR | O_CREAT, 0644);
+    uint8_t *bytes;
+    if (most < 1 || most >= size || !(bytes = malloc((size_t)most * PAGE)) || file < 0)
+        return 1;
+    memset(bytes, 7, (size_t)most * PAGE);
+    for (uint32_t i = 0; i < size; i++)
+        if (pwrite(file, bytes, PAGE, (off_t)i * PAGE) != PAGE)
+            return 1;
+    puts("filled");
+    fflush(stdout);
+    for (uint32_t i = 0; i < rounds; i++) {
+        for (uint32_t k = 0; k < reads; k++) {
+            ssize_t n = (ssize_t)wide * PAGE;
+            if (pread(file, bytes, (size_t)n, (off_t)drawn(&draw, size - most) * PAGE) != n)
+                return 1;
+        }
+        for (uint32_t k = 0; k < writes; k++) {
+            ssize_t n = (ssize_t)broad * PAGE;
+            if (pwrite(file, bytes, (size_t)n, (off_t)drawn(&draw, size - most) * PAGE) != n)
+                return 1;
+        }
+    }
+    return close(file);
+}
+
 int main(int count, char **words) {
     uint32_t n, rounds;
     size_t page;
+    if (count == 8 && !strcmp(words[1], "places"))
+        return places(words + 2);
     if (count != 4 && count != 5)
         return 2;
     n = (uint32_t)atoi(words[2]);

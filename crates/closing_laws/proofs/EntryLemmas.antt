@@ -24,7 +24,7 @@ use Rattle.image_model.specs.Image.{HasTree}
 use Rattle.image_laws.proofs.NodeLemmas.{data-below}
 use Rattle.image_format.specs.Entries.{HasRoom}
 use Rattle.closing_laws.specs.Closed.{version_entry, IsStored}
-use Rattle.closing_laws.proofs.PagesUsed.{bytes-within}
+use Rattle.cost_laws.proofs.PagesUsed.{bytes-within}
 
 -- the tree of a good version at the root of its levels
 pub stored-is-tree : (n : Numbers) (at : Pages) (tree : Tree) → IsGood n tree → AreStored at 1 tree.levels →

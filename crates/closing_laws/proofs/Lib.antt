@@ -1,4 +1,3 @@
-pub mod PagesUsed
 pub mod CatalogLemmas
 pub mod EntryLemmas
 pub mod ClosedLemmas

@@ -10,25 +10,25 @@ use Rattle.layout_model.specs.declared.change.Change.{Change}
 use Rattle.layout_model.specs.declared.extent.Extent.{Extent}
 use Rattle.layout_model.specs.declared.fit.Fit.{Fit}
 use Rattle.layout_model.specs.declared.fit.Fit.TheVariants.{Extend, Follow, Fresh}
-use Rattle.layout_model.specs.Layout.{Tree, Grants, as_run, laid, laid_entries, plan_of, spare_after}
+use Rattle.layout_model.specs.Layout.{Tree, Grants, as_run, laid, laid_entries, laid_levels, plan_of, spare_after}
 use Rattle.layout_model.specs.Layout.{tree_entries}
-use Rattle.layout_model.specs.Levels.{count_made, spliced}
+use Rattle.layout_model.specs.Levels.{count_made}
 use Rattle.layout_model.specs.Pack.{pack}
 use Rattle.layout_model.specs.Parts.{parts_of}
 use Rattle.layout_model.specs.Plan.{Plan, extent_pages, fit_appended, made_part_bytes, plan_extended, planned}
 use Rattle.layout_laws.specs.Halving.{runs_pages}
 use Rattle.layout_laws.proofs.HalvingLemmas.{runs_pages-append}
+use Rattle.moment_model.specs.Costs.{added_most, cost}
 use Rattle.moment_model.specs.Version.{IsGood}
 use Rattle.moment_laws.specs.Granting.{page_run, runs_of_parts}
 use Rattle.change_laws.specs.Laying.{IsChange}
 use Rattle.change_laws.specs.Tail.{IsTail}
 use Rattle.change_laws.proofs.PartLemmas.{segments-have}
-use Rattle.change_laws.proofs.NodeCountLemmas.{made-alike}
 use Rattle.change_laws.proofs.LayingLemmas.{fit-cases, merged_plan}
 use Rattle.change_laws.specs.Suiting.{SuitPlan, IsSuited}
 use Rattle.change_laws.proofs.SuitLemmas.{fresh-suits, follow-suits}
 use Rattle.change_laws.proofs.PlannedLemmas.{follow-entries, fresh-entries, fresh-spare, packed-object, suited-out}
-use Rattle.cost_laws.specs.ChangeCost.{added_pieces, brought_pages, IsCheap}
+use Rattle.cost_laws.specs.ChangeCost.{brought_pages, IsCheap}
 use Rattle.cost_laws.proofs.NodeCostLemmas.{spliced-few}
 use Rattle.cost_laws.proofs.PartCostLemmas.{plan-small}
 use Rattle.cost_laws.proofs.RunCostLemmas.{added, all-shared, laid-few, pages-single}
@@ -157,31 +157,52 @@ planned-small n tree spare change runs some space good suits =
 
 -- ---- the whole
 
+-- Runs that suit the parts of a change, wherever they stand: halving added few pieces, and the pages of what the change brings and one
+-- for each node that is made on them are no more than its cost. No more is granted than is brought and set aside.
+pub record WritesFew (n : Numbers) (tree : Tree) (spare : Option Extent) (change : Change) (runs : List (List Extent)) : Type 0 where
+  pub pieces : sum_by added runs ≤ added_most n change.added tree.threshold
+  pub written : brought_pages n change (plan_of n tree spare change)
+      + count_made (laid_levels n tree spare (plan_of n tree spare change) runs [])
+      ≤ cost n change.added (length tree.levels) tree.threshold (sum_by added runs)
+  pub granted : runs_pages (runs_of_parts runs) ≤ brought_pages n change (plan_of n tree spare change)
+      + extent_pages (spare_after n spare change (plan_of n tree spare change) runs)
+
+pub suited-few : (n : Numbers) (tree : Tree) (spare : Option Extent) (change : Change) (runs : List (List Extent)) → IsInRange n →
+    IsGood n tree → (plan_of n tree spare change).from + (plan_of n tree spare change).count ≤ length (tree_entries tree) →
+    SuitPlan n tree change (plan_of n tree spare change) runs → WritesFew n tree spare change runs
+suited-few n tree spare change runs range good inside suits =
+    let plan = plan_of n tree spare change in
+    let wide = fan_out-low n range in
+    let object = packed-object n tree range good in
+    let small = planned-small n tree spare change runs object.page object.space good suits in
+    let nodes = spliced-few (fan_out n) tree.levels plan.from plan.count (laid_entries n spare plan runs) [] (omega (arith, wide))
+    good.shape inside in
+    let low = good.threshold_low in
+    let brought = small.brought in
+    let entries = small.entries in
+    let few = small.few in
+    record {
+      pieces = le-div (sum_by added runs) (page_count n.page change.added + 4 * tree.threshold + 4) tree.threshold (omega (arith, low))
+          (omega (arith, few, brought));
+      written = omega (arith, brought, entries, nodes, low);
+      granted = small.granted;
+    }
+
 pub change-cheap : (n : Numbers) (tree : Tree) (spare : Option Extent) (change : Change)
     (grants : Grants) → IsInRange n → IsGood n tree → IsTail n (Some tree) spare → IsChange tree change →
     IsSuited n tree spare change grants → IsCheap n tree spare change grants
 unfolding laid
 change-cheap n tree spare change grants range good tail is suits =
-    let plan = plan_of n tree spare change in
-    let f = fan_out n in
-    let wide = fan_out-low n range in
     let object = packed-object n tree range good in
     let lays = suited-out n tree spare change grants object tail is suits in
-    let small = planned-small n tree spare change grants.runs object.page object.space good suits.runs in
-    let new = laid_entries n spare plan grants.runs in
-    let nodes = spliced-few f tree.levels plan.from plan.count new grants.pages (omega (arith, wide)) good.shape lays.inside in
-    let made : count_made (spliced f tree.levels plan.from plan.count new grants.pages) ≡ length grants.pages =
-    made-alike f tree.levels plan.from plan.count new grants.pages [] ∙ sym suits.pages in
-    let low = good.threshold_low in
-    let brought = small.brought in
-    let entries = small.entries in
-    let few = small.few in
-    let runs = small.granted in
+    let few = suited-few n tree spare change grants.runs range good lays.inside suits.runs in
+    let made = suits.pages in
+    let written = few.written in
+    let runs = few.granted in
     let all = runs_pages-append (runs_of_parts grants.runs) (map page_run grants.pages) in
     let single = pages-single grants.pages in
     record {
-      added = le-div (added_pieces grants) (page_count n.page change.added + 4 * tree.threshold + 4) tree.threshold (omega (arith, low))
-          (omega (arith, few, brought));
-      written = omega (arith, brought, entries, nodes, made, low);
-      granted = omega (arith, brought, entries, nodes, made, low, runs, all, single);
+      added = few.pieces;
+      written = omega (arith, written, made);
+      granted = omega (arith, written, made, runs, all, single);
     }

@@ -4,3 +4,4 @@ pub mod NodeCostLemmas
 pub mod CheapLemmas
 pub mod MetLemmas
 mod Worked
+pub mod PagesUsed

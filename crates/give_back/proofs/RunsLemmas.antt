@@ -11,7 +11,7 @@ use Rattle.geometry_model.proofs.PageLaws.{IsInSpace-below, IsPlace-in_run, plac
 use Rattle.layout_model.specs.declared.extent.Extent.{Extent}
 use Rattle.moment_model.specs.Version.{covers, uses}
 use Rattle.moment_laws.specs.Granting.{LiesInSpace}
-use Rattle.moment_laws.proofs.GrantLemmas.{uses-append}
+use Rattle.moment_laws.proofs.GrantLemmas.{uses-append, uses-cons, covers-on}
 use Rattle.change_laws.proofs.PartLemmas.{all-left, all-right}
 use Rattle.page_cache.specs.Kept.{KeptNodes, is_on_run}
 use Rattle.span_store.specs.Held.{Held, AllSized}
@@ -33,7 +33,7 @@ use Rattle.give_back.specs.Giving.{
 }
 use Rattle.give_back.proofs.LeftLemmas.{left-held, left-stays, leaves-as, leaves-not, leaves-then}
 use Rattle.give_back.proofs.LetGoLemmas.{gives-apart, gives-both, gives-same, let_go-as, let_go-not, let_go-then, or_ways}
-use Rattle.give_back.proofs.UsesLemmas.{covers-off, covers-on, in-none, on-covers, uses-cons}
+use Rattle.give_back.proofs.UsesLemmas.{covers-off, in-none, on-covers}
 
 -- the pages of a run in a space are data pages, and their numbers small
 pub lies-data : (n : Numbers) (run : Extent) → LiesInSpace n run → AreDataPages n run.page run.pages

@@ -3,17 +3,12 @@ use Rattle.std.proofs.Common.{◌≡◌, ℕ, ◌+◌, ◌<◌, ◌≤◌, ◌||
 use Rattle.std.proofs.Common.{refl, sym, ap, arith, ◌∙◌, inl, inr}
 use Rattle.std.specs.Prelude.{if◌then◌else◌}
 use Rattle.std.proofs.lemmas.Bool.{cases_lt, lt-ltb}
-use Rattle.std.proofs.lemmas.Bool.Decides.{nat_tests}
-use Rattle.std.proofs.lemmas.List.Sums.{sum_by-cons}
 use Rattle.layout_model.specs.declared.extent.Extent.{Extent}
 use Rattle.moment_model.specs.Version.{covers, uses}
-use Rattle.moment_laws.proofs.GrantLemmas.{covers-cases, uses-append}
+use Rattle.moment_laws.proofs.GrantLemmas.{covers-cases, uses-append, uses-cons}
 use Rattle.page_cache.specs.Kept.{is_on_run}
 use Rattle.give_back.specs.Giving.{is_in_runs}
 use Rattle.base_laws.proofs.NumberLaws.{some-of}
-
-pub uses-cons : (q : ℕ) (run : Extent) (runs : List Extent) → uses q (run ∷ runs) ≡ covers q run + uses q runs
-uses-cons q run runs = sum_by-cons (covers q) run runs
 
 pub covers-few : (q : ℕ) (run : Extent) → covers q run ≤ 1
 covers-few q run = elim (covers-cases q run) [ inl one ↦ omega (arith, one.0) | inr none ↦ omega (arith, none.0) ]
@@ -25,12 +20,6 @@ one-test false = refl
 
 pub on-covers : (q : ℕ) (run : Extent) → is_on_run run.page run.pages q ≡ nat_lt 0 (covers q run)
 on-covers q run = one-test (is_on_run run.page run.pages q)
-
-pub covers-on : (q : ℕ) (run : Extent) → run.page ≤ q → q < run.page + run.pages → covers q run ≡ 1
-covers-on q run from to = elim (covers-cases q run) [
-  | inl one ↦ one.0
-  | inr none ↦ elim none.1 [ inl before ↦ absurd (omega (arith, from, before)) | inr behind ↦ absurd (omega (arith, to, behind)) ]
-]
 
 pub covers-off : (q : ℕ) (run : Extent) → covers q run ≡ 0 → is_on_run run.page run.pages q ≡ false
 covers-off q run none = on-covers q run ∙ ap (nat_lt 0) none

@@ -18,7 +18,7 @@ use span_store::Holdings;
 use superdirectory::{Latches, release};
 
 /// The space of a data page.
-fn space_of(geometry: &Geometry, page: u32) -> u16
+pub fn space_of(geometry: &Geometry, page: u32) -> u16
     requires { IsTrue (is_data_page geometry.now page) }
     ensures { (at : ℕ) × IsPlace geometry.now page result at }
 {

@@ -5,4 +5,4 @@
 
 mod giving;
 
-pub use giving::{give_run, give_runs};
+pub use giving::{give_run, give_runs, space_of};

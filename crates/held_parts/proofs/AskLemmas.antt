@@ -20,6 +20,7 @@ use Rattle.superdirectory.specs.Rest.{Frame, Rest, count}
 use Rattle.superdirectory.specs.Trace.{SpaceEvent, Part, AreEnters}
 use Rattle.superdirectory.proofs.Halves.{taken_length}
 use Rattle.superdirectory.proofs.Traces.{part_as, part_then}
+use Rattle.superdirectory.proofs.HomeLaws.{told-same}
 use Rattle.part_store.specs.Asking.{AreOfAll, AreRuns, AreRunsOf, IsLowAt, IsRefusedFor, LeavesTold, rows}
 use Rattle.object_body.specs.declared.fails.EditFail.{EditFail}
 use Rattle.object_body.specs.declared.fails.EditFail.TheVariants.{Memory, NoSpace}
@@ -33,7 +34,7 @@ use Rattle.held_parts.specs.Spaces.{AreTakenOut, IsLowFor}
 use Rattle.held_parts.proofs.HeldLemmas.{granted-spans, same-from, same-left, same-none}
 use Rattle.held_parts.proofs.NodeLemmas.{granted-bare, granted-nodes}
 use Rattle.give_back.proofs.RunsLemmas.{both-go}
-use Rattle.held_parts.proofs.SpaceLemmas.{back-all, back-let_go, back-untouched, runs-lie, taken-out, told-same}
+use Rattle.held_parts.proofs.SpaceLemmas.{back-all, back-let_go, back-untouched, runs-lie, taken-out}
 use Rattle.give_back.proofs.UsesLemmas.{in-append}
 
 -- the runs of two lists

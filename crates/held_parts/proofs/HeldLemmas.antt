@@ -7,6 +7,7 @@ use Rattle.std.specs.List.{AllByRecursion}
 use Rattle.std.specs.Option.{option_or}
 use Rattle.std.proofs.lemmas.Bool.{cases_Bool, cases_lt, eq-eqb, eqb-true, false≢true, lt-ltb}
 use Rattle.base_laws.proofs.ListLaws.{all-map}
+use Rattle.base_laws.proofs.BoolLaws.{or-assoc}
 use Rattle.layout_model.specs.declared.extent.Extent.{Extent}
 use Rattle.moment_model.specs.Version.{covers, uses}
 use Rattle.page_cache.specs.Kept.{is_on_run}
@@ -19,8 +20,9 @@ use Rattle.give_back.specs.Giving.{IsLeft, IsOwnRun, is_in_runs}
 use Rattle.held_parts.specs.Asking.{AreHeldLast}
 use Rattle.held_parts.specs.Holding.{HoldsGranted, HoldsSame, begins_one}
 use Rattle.give_back.proofs.LeftLemmas.{left-has, span-has}
-use Rattle.give_back.proofs.UsesLemmas.{covers-few, covers-off, covers-on, in-cons, in-none}
-use Rattle.give_back.proofs.UsesLemmas.{none-in, on-covers, uses-cons}
+use Rattle.give_back.proofs.UsesLemmas.{covers-few, covers-off, in-cons, in-none}
+use Rattle.give_back.proofs.UsesLemmas.{none-in, on-covers}
+use Rattle.moment_laws.proofs.GrantLemmas.{uses-cons, covers-on}
 
 -- ---- nothing yet
 
@@ -192,10 +194,6 @@ granted-more s runs old mid new some granted lacks added =
     or-right : (a b : Bool) → (a || b) ≡ false → b ≡ false
     or-right true b none = absurd cc
     or-right false b none = none
-
-    or-assoc : (a b d : Bool) → (a || (b || d)) ≡ ((a || b) || d)
-    or-assoc true b d = refl
-    or-assoc false b d = refl
 
     go-none : (q : ℕ) → 0 < covers q (run_of s) → (q < s.first) ⊎ (s.first ≤ q) → has mid q ≡ false
     go-none q there (inl before) =

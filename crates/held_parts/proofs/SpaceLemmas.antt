@@ -1,11 +1,11 @@
 -- The told spaces, page by page, where runs were granted, and where they were given back.
-use Rattle.std.proofs.Common.{◌≡◌, ℕ, ◌+◌, ◌-◌, ◌<◌, ◌≤◌, Bool, true, false, not, ◌&&◌, ◌||◌, IsTrue, List, [], ◌∷◌, ◌++◌, length, map}
+use Rattle.std.proofs.Common.{◌≡◌, ℕ, ◌+◌, ◌-◌, ◌<◌, ◌≤◌, Bool, true, false, not, ◌&&◌, ◌||◌, List, [], ◌∷◌, ◌++◌, length, map}
 use Rattle.std.proofs.Common.{nat_eq, nat_lt, Some, None, refl, sym, ap, subst, arith, ◌∙◌, inl, inr}
 use Rattle.std.specs.Prelude.{slice_get, slice_set, slice_index}
 use Rattle.std.specs.List.{AllByRecursion}
 use Rattle.std.proofs.lemmas.Bool.{cases_lt, false≢true, lt-ltb}
 use Rattle.std.proofs.lemmas.Bool.Decides.{nat_tests}
-use Rattle.base_laws.proofs.OptionLaws.{some-inner}
+use Rattle.base_laws.proofs.BoolLaws.{or-assoc, never-true}
 use Rattle.geometry_model.specs.Numbers.{Numbers}
 use Rattle.geometry_model.specs.Pages.{IsPlace, first_page}
 use Rattle.geometry_model.proofs.PageLaws.{IsPlace-in_run, IsPlace-unique}
@@ -13,7 +13,7 @@ use Rattle.block_model.specs.Block.{HasRun}
 use Rattle.layout_model.specs.declared.extent.Extent.{Extent}
 use Rattle.moment_model.specs.Version.{covers, uses}
 use Rattle.moment_laws.specs.Granting.{LiesInSpace}
-use Rattle.moment_laws.proofs.GrantLemmas.{uses-append}
+use Rattle.moment_laws.proofs.GrantLemmas.{uses-append, uses-cons}
 use Rattle.page_cache.specs.Kept.{is_on_run}
 use Rattle.page_port.specs.Pages.{IsSized}
 use Rattle.space_directory.specs.SpaceView.{SpaceView, after_grant, after_give}
@@ -21,7 +21,7 @@ use Rattle.space_directory.proofs.PageLaws.{free-granted, in_run-below, in_run-a
 use Rattle.superdirectory.specs.Grants.{AreTold, AreRunsIn, IsGivenAll, IsRunIn}
 use Rattle.superdirectory.specs.Parts.{IsTakenAll, extents}
 use Rattle.superdirectory.specs.Rest.{Frame, Rest}
-use Rattle.superdirectory.proofs.HomeLaws.{granted_stays, run_fits}
+use Rattle.superdirectory.proofs.HomeLaws.{granted_stays, run_fits, told-same}
 use Rattle.object_body.specs.Moves.{IsUntouched}
 use Rattle.object_body.specs.Places.{IsStore, AreHome, is_free_place, is_locked_place}
 use Rattle.object_body.proofs.TurnLemmas.{free-in, granted_free}
@@ -29,23 +29,11 @@ use Rattle.object_body.proofs.TurnLemmas.{locked-in, run-in_space, same_locked}
 use Rattle.object_body.proofs.TurnLemmas.{turned-given, turned-one}
 use Rattle.give_back.specs.Giving.{AreLetGo, gives, is_in_runs}
 use Rattle.held_parts.specs.Spaces.{AreTakenOut}
-use Rattle.give_back.proofs.UsesLemmas.{in-cons, in-some, on-covers, uses-cons}
+use Rattle.give_back.proofs.UsesLemmas.{in-cons, in-some, on-covers}
 
 -- told spaces alone
 abbrev told_as : Frame → List SpaceView → Rest
 told_as frame views = record { frame = frame; spaces = Some (map Some views); entered = None }
-
-map-some : (a b : List SpaceView) → map Some a ≡ map Some b → a ≡ b
-map-some [] [] same = refl
-map-some [] (y ∷ b) same = cc
-map-some (x ∷ a) [] same = cc
-map-some (x ∷ a) (y ∷ b) same =
-    (let first : x ≡ y = cc in let rest : map Some a ≡ map Some b = cc in
-    ap (λ (v : SpaceView). v ∷ a) first ∙ ap (λ (vs : List SpaceView). y ∷ vs) (map-some a b rest))
-
--- the told spaces are one list
-pub told-same : (rest : Rest) (a b : List SpaceView) → AreTold rest a → AreTold rest b → a ≡ b
-told-same rest a b first second = map-some a b (some-inner (map Some a) (map Some b) (sym first ∙ second))
 
 -- ---- runs that were granted
 
@@ -57,10 +45,6 @@ pub record IsOut (n : Numbers) (frame : Frame) (runs : List Extent) (before afte
   pub free : (page s at : ℕ) → IsPlace n page s at →
       is_free_place after s at ≡ (nat_eq (uses page runs) 0 && is_free_place before s at)
   pub locked : (page s at : ℕ) → IsPlace n page s at → is_locked_place after s at ≡ is_locked_place before s at
-
-never-true : (b : Bool) → (IsTrue b → ⊥) → b ≡ false
-never-true true never = absurd (never refl)
-never-true false never = refl
 
 -- where a page of a run stands in its space
 run-place : (n : Numbers) (frame : Frame) (space first k page s at base : ℕ) → IsStore n frame → IsRunIn frame space first k →
@@ -229,10 +213,6 @@ pub record IsBack (n : Numbers) (frame : Frame) (runs : List Extent) (before aft
   pub free : (page s at : ℕ) → IsPlace n page s at → is_free_place after s at ≡ (is_in_runs runs page || is_free_place before s at)
   pub locked : (page s at : ℕ) → IsPlace n page s at →
       is_locked_place after s at ≡ (not (is_in_runs runs page) && is_locked_place before s at)
-
-or-assoc : (a b d : Bool) → (a || (b || d)) ≡ ((a || b) || d)
-or-assoc true b d = refl
-or-assoc false b d = refl
 
 not-or : (a b d : Bool) → (not a && (not b && d)) ≡ (not (a || b) && d)
 not-or true b d = refl

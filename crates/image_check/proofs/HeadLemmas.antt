@@ -1,11 +1,10 @@
 -- The first checks of a node, one after the other.
-use Rattle.std.proofs.Common.{◌≡◌, ℕ, ◌/◌, append-nil, ◌≤◌, Bool, true, false, ◌&&◌, not, IsTrue, Option, Some, None}
+use Rattle.std.proofs.Common.{◌≡◌, ℕ, ◌/◌, append-nil, ◌≤◌, Bool, true, false, ◌&&◌, not, Option, Some, None}
 use Rattle.std.proofs.Common.{is_some, List, [], length}
-use Rattle.std.proofs.Common.{refl, sym, ap, subst, ◌∙◌, arith, nat_eq}
+use Rattle.std.proofs.Common.{refl, sym, ap, subst, ◌∙◌, nat_eq}
 use Rattle.std.specs.Prelude.{nat_le, unwrap_or, IfSome, IsOk, OnOk, Result, Ok, Err, is_ok}
 use Rattle.node_codec.specs.declared.parsed.BadNode.{BadNode}
 use Rattle.std.proofs.lemmas.Bool.{false≢true}
-use Rattle.std.proofs.Math.Nat.{div_self}
 use Rattle.geometry_model.specs.Numbers.{Numbers}
 use Rattle.tree_model.specs.Content.{run_bytes}
 use Rattle.geometry_model.specs.Pages.{is_data_page}
@@ -13,7 +12,7 @@ use Rattle.tree_model.specs.declared.entry.Pair.{Pair}
 use Rattle.tree_model.specs.Node.{NodeBytes, node_in}
 use Rattle.tree_model.proofs.NodeLemmas.{node_in-level, node_in-pairs}
 use Rattle.node_codec.proofs.NumberLemmas.{AreBytes}
-use Rattle.span_store.specs.Held.{Held, HoldsRun, bytes_on, has, page_at}
+use Rattle.span_store.specs.Held.{Held, bytes_on, has, page_at}
 use Rattle.image_model.specs.Super.{image_page}
 use Rattle.image_model.specs.Checks.{Walk, Checked, then_check, check, holds_node, meet}
 use Rattle.image_model.specs.Checks.Refusal.{BadTree, BadNode as NodeRefused}

@@ -15,6 +15,8 @@ mod path;
 mod segment;
 mod share;
 mod sum;
+#[cfg(test)]
+mod tests;
 mod tree;
 mod used;
 mod walk;

@@ -73,12 +73,12 @@ dropped-locked good n held still moment o after sound stays within same page dro
 -- ---- the runs
 
 -- a spare as runs
-spare-run : (page : ℕ) (spare : Option Extent) → uses page (spare_run spare) ≡ spare_uses page spare
+pub spare-run : (page : ℕ) (spare : Option Extent) → uses page (spare_run spare) ≡ spare_uses page spare
 spare-run page None = refl
 spare-run page (Some run) = let one = sum_by-cons (covers page) run [] in omega (arith, one)
 
 -- entries before, within and behind a plan's place
-parts-uses : (page size from count : ℕ) (entries : List Pair) →
+pub parts-uses : (page size from count : ℕ) (entries : List Pair) →
     segments_uses page size entries ≡ segments_uses page size
     (take from entries) + (segments_uses page size (take count (drop from entries)) + segments_uses page size
     (drop (from + count) entries))

@@ -2,7 +2,7 @@
 use Rattle.std.proofs.Common.{◌≡◌, ℕ, zero, suc, ◌+◌, ◌-◌, ◌*◌, ◌/◌, ◌<◌, ◌≤◌, Bool, true, false, Option, Some}
 use Rattle.std.proofs.Common.{None, List, [], ◌∷◌, ◌++◌, length, map, refl, sym, ap, subst, arith, ◌∙◌, ◌⊎◌, inl}
 use Rattle.std.proofs.Common.{inr, nat_lt, get_or-set_same, get_or-set_other, length-set}
-use Rattle.std.specs.List.{AllByRecursion, range_with_len}
+use Rattle.std.specs.List.{range_with_len}
 use Rattle.std.proofs.lemmas.Bool.{cases_lt, cases_eq}
 use Rattle.std.proofs.lemmas.Bool.Decides.{nat_tests}
 use Rattle.std.proofs.lemmas.List.{get_or_past, get_or-map, length-map}
@@ -83,6 +83,17 @@ covers-cases page run =
             | inr behind ↦ inr (grind (arith, nat_tests), inr behind)
           ]
     ]
+
+-- once, inside of it
+pub covers-on : (page : ℕ) (run : Extent) → run.page ≤ page → page < run.page + run.pages → covers page run ≡ 1
+covers-on page run from to = elim (covers-cases page run) [
+  | inl inside ↦ inside.0
+  | inr outside ↦
+      elim outside.1 [
+        | inl before ↦ absurd (omega (arith, before, from))
+        | inr behind ↦ absurd (omega (arith, behind, to))
+      ]
+]
 
 -- a spot for so many pages, in spaces of the store
 record IsSpot (n : Numbers) (spaces : Spaces) (spot : Spot) (pages : ℕ) : Type 0 where
@@ -240,6 +251,10 @@ spot-took n spaces spot pages order are found =
     }
 
 -- ---- chains
+
+-- a run before others
+pub uses-cons : (page : ℕ) (run : Extent) (runs : List Extent) → uses page (run ∷ runs) ≡ covers page run + uses page runs
+uses-cons page run runs = sum_by-cons (covers page) run runs
 
 pub uses-append : (page : ℕ) (xs ys : List Extent) → uses page (xs ++ ys) ≡ uses page xs + uses page ys
 uses-append page xs ys = sum_by-append (covers page) xs ys
@@ -463,11 +478,4 @@ took-free n moment runs left took page =
 
 -- a page of a run counts for it
 pub inside-counts : (page : ℕ) (run : Extent) → run.page ≤ page → page < run.page + run.pages → 0 < covers page run
-inside-counts page run from to = elim (covers-cases page run) [
-  | inl inside ↦ omega (arith, inside.0)
-  | inr outside ↦
-      elim outside.1 [
-        | inl before ↦ absurd (omega (arith, before, from))
-        | inr behind ↦ absurd (omega (arith, behind, to))
-      ]
-]
+inside-counts page run from to = omega (arith, covers-on page run from to)

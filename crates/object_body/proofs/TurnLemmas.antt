@@ -1,6 +1,6 @@
 -- How told spaces turn, page by page, where a run of one of them is granted, given, locked or unlocked, and where one
 -- such call comes after another.
-use Rattle.std.proofs.Common.{◌≡◌, ◌≢◌, ℕ, ◌+◌, ◌-◌, ◌<◌, ◌≤◌, Bool, true, false, not, ◌&&◌, ◌||◌, IsTrue, List, []}
+use Rattle.std.proofs.Common.{◌≡◌, ◌≢◌, ℕ, ◌+◌, ◌-◌, ◌<◌, ◌≤◌, Bool, true, false, not, ◌&&◌, ◌||◌, List, []}
 use Rattle.std.proofs.Common.{◌∷◌, length, zero, suc, Some, None, Option, refl, sym, ap, subst, arith, ◌∙◌, inl}
 use Rattle.std.proofs.Common.{inr}
 use Rattle.std.specs.Prelude.{slice_get, slice_set, slice_index, slice_index_or, map}
@@ -8,6 +8,7 @@ use Rattle.std.proofs.lemmas.Bool.{cases_lt, cases_eq, false≢true}
 use Rattle.std.proofs.lemmas.List.{length-set}
 use Rattle.base_laws.proofs.ListLaws.{slice_get-set_same, slice_get-set_other}
 use Rattle.base_laws.proofs.OptionLaws.{some-inner}
+use Rattle.base_laws.proofs.BoolLaws.{never-true}
 use Rattle.geometry_model.specs.Numbers.{Numbers}
 use Rattle.geometry_model.specs.Pages.{IsPlace, IsInSpace, first_page}
 use Rattle.geometry_model.proofs.PageLaws.{IsPlace-unique, IsPlace-in_run}
@@ -349,10 +350,6 @@ granted-home frame s at k v fits of = record {
   pages =
       length-with_run v.free at k false fits ∙ of.pages;
 }
-
-never-true : (b : Bool) → (IsTrue b → ⊥) → b ≡ false
-never-true true never = absurd (never refl)
-never-true false never = refl
 
 -- where a page of the run stands in its space
 in-spot : (n : Numbers) (frame : Frame) (space first k page s at spot : ℕ) → IsStore n frame →

@@ -1,12 +1,13 @@
 -- The new bytes are put, and the entries exchanged.
-use Rattle.std.proofs.Common.{zero, ◌≡◌, ℕ, suc, ◌&&◌, nat_eq, ◌+◌, ◌-◌, ◌*◌, ◌<◌, ◌≤◌, ◌^◌}
+use Rattle.std.proofs.Common.{zero, ◌≡◌, ℕ, suc, ◌&&◌, nat_eq, ◌+◌, ◌-◌, ◌<◌, ◌≤◌, ◌^◌}
 use Rattle.std.proofs.Common.{Bool, true, false, IsTrue, List, [], ◌∷◌, length, map, take, drop}
 use Rattle.std.proofs.Common.{Option, Some, None, refl, sym, ap, subst, arith, ◌∙◌, inl, inr}
 use Rattle.std.specs.Prelude.{Result, Ok, Err, is_some, slice_get, slice_index_or, slice_set, unwrap_or}
 use Rattle.std.specs.List.{AllByRecursion}
 use Rattle.std.proofs.lemmas.Bool.{cases_Bool, cases_lt, false≢true}
-use Rattle.std.proofs.lemmas.List.{length-map, length-set, length-take}
+use Rattle.std.proofs.lemmas.List.{length-map, length-set}
 use Rattle.base_laws.proofs.OptionLaws.{some-inner}
+use Rattle.base_laws.proofs.BoolLaws.{never-true}
 use Rattle.std.proofs.lemmas.List.Sums.{sum_by-take-drop}
 use Rattle.fault_count.specs.Counts.{HasCause, IsUsed, Meter}
 use Rattle.fault_count.proofs.CountLaws.{IsUsed-then}
@@ -21,7 +22,6 @@ use Rattle.tree_model.specs.declared.entry.Pair.{Pair}
 use Rattle.tree_model.specs.declared.tree.Root.{Root}
 use Rattle.tree_model.specs.Node.{room_of}
 use Rattle.tree_model.specs.Tree.{Pages, bytes_of, page_count}
-use Rattle.tree_model.proofs.PageCountLaws.{count-enough}
 use Rattle.layout_model.specs.declared.extent.Extent.{Extent}
 use Rattle.layout_model.specs.declared.fit.Fit.{Fit}
 use Rattle.layout_model.specs.declared.fit.Fit.TheVariants.{Extend, Follow, Fresh}
@@ -34,7 +34,7 @@ use Rattle.let_go_laws.specs.LetGo.{spare_run}
 use Rattle.moment_model.specs.Version.{covers, uses, version_uses}
 use Rattle.moment_model.specs.Moment.{count_true}
 use Rattle.moment_laws.specs.Granting.{AreSpaces, is_among, page_run, test_at}
-use Rattle.moment_laws.proofs.GrantLemmas.{Takes, covers-cases, node_pages-takes}
+use Rattle.moment_laws.proofs.GrantLemmas.{Takes, covers-cases, node_pages-takes, uses-cons}
 use Rattle.node_codec.specs.PairList.{PairList}
 use Rattle.page_cache.specs.Kept.{KeptNodes}
 use Rattle.page_set.specs.declared.page_run.PageRun.{PageRun}
@@ -58,8 +58,8 @@ use Rattle.part_store.specs.Asking.{rows}
 use Rattle.part_bytes.specs.declared.part.WriteFail.{WriteFail}
 use Rattle.part_bytes.specs.declared.part.WriteFail.TheVariants as write
 use Rattle.part_bytes.specs.Parts.{PartsStand}
-use Rattle.part_bytes.specs.Runs.{ChangesRuns, StandOn}
-use Rattle.part_bytes.proofs.RunLemmas.{StandFrom-same}
+use Rattle.part_bytes.specs.Runs.{ChangesRuns}
+use Rattle.part_bytes.proofs.PartsLemmas.{StandOn-same}
 use Rattle.tree_splice.specs.declared.failure.SpliceFail.{SpliceFail}
 use Rattle.tree_splice.specs.declared.failure.SpliceFail.TheVariants as splice
 use Rattle.tree_splice.specs.declared.new_tree.Spliced.{Spliced}
@@ -87,7 +87,6 @@ use Rattle.object_change.specs.Steps.{its_plan, put_runs}
 use Rattle.object_change.proofs.LaidLemmas.{HaveAll, kept-all, laid-all, spare-all}
 use Rattle.object_change.proofs.PutLemmas.{follow-there, goes-as}
 use Rattle.object_change.proofs.StayLemmas.{SameTree, stays-on, tree-same, working-stays}
-use Rattle.give_back.proofs.UsesLemmas.{covers-on, uses-cons}
 
 -- ---- the entries
 
@@ -178,20 +177,6 @@ plan-between n at now w p plan same =
     }
 
 -- ---- the bytes stay where they were put
-
-StandOn-same : (at other : Pages) (size : ℕ) (runs : List Extent) (bytes : List ℕ) → 0 < size →
-    ((q : ℕ) → 0 < uses q runs → at q ≡ other q) → StandOn other size runs bytes → StandOn at size runs bytes
-StandOn-same at other size [] bytes some same stands = tt
-StandOn-same at other size (run ∷ runs) bytes some same stands =
-    let few : page_count size (length (take (run.pages * size) bytes)) ≤ run.pages =
-    count-enough size (length (take (run.pages * size) bytes)) run.pages some (omega (arith, length-take (run.pages * size) bytes)) in (
-      StandFrom-same at other size run.page (take (run.pages * size) bytes)
-          (λ q first last.
-          let one = covers-on q run first (omega (arith, last, few)) in
-          same q (omega (arith, uses-cons q run runs, one))) stands.0,
-      StandOn-same at other size runs (drop (run.pages * size) bytes) some
-          (λ q more. same q (omega (arith, uses-cons q run runs, more))) stands.1,
-    )
 
 parts-same : (at other old : Pages) (size : ℕ) (payload : List ℕ) (parts : List EditPart) (counts : List ℕ) (runs : List Extent) →
     0 < size →
@@ -368,10 +353,6 @@ pages-out n frame start views after pages rest store home stays told answer =
       free = λ page s at place. left-free (is_free_place after s at) (is_free_place views s at) (uses page runs) (counted page s at place);
       locked = λ page s at place. locked s at;
     }
-  where
-    never-true : (b : Bool) → (IsTrue b → ⊥) → b ≡ false
-    never-true true never = absurd (never refl)
-    never-true false never = refl
 
 -- the pages of made nodes were taken
 pub takes-pages : (n : Numbers) (start : ℕ) (wants : ℕ → Type 0) (views : List SpaceView) (frame : Frame) (s : Spliced) (rest : Rest) →

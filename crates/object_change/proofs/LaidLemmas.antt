@@ -23,6 +23,7 @@ use Rattle.edit_parts.specs.declared.part.Part.TheVariants.{Keep, Make}
 use Rattle.edit_parts.specs.Parts.{layout_part}
 use Rattle.edit_parts.specs.Pieces.{pieces_bytes}
 use Rattle.part_store.specs.Asking.{AreOfAll, AreRowsOf, IsAskable, rows}
+use Rattle.written_laws.proofs.AskedLemmas.{one-run}
 
 -- a part has a byte
 abbrev pub HasByte : Part → Type 0
@@ -67,11 +68,6 @@ segments-some size bytes (run ∷ rest) some whole each =
     let left = count-minus size bytes run.pages some in
     (omega (arith, byte, one), segments-some size (bytes - run.pages * size) rest some (omega (arith, whole, all, left)) each.1)
 
-one-size : (pages : ℕ) (runs : List Extent) → pages_of runs ≡ pages ∷ [] → (run : Extent) × (runs ≡ run ∷ []) × (run.pages ≡ pages)
-one-size pages [] same = absurd cc
-one-size pages (run ∷ []) same = (run, refl, cc)
-one-size pages (run ∷ next ∷ rest) same = absurd cc
-
 each-some : (least : ℕ) (ks : List ℕ) → 1 ≤ least → AllByRecursion (λ k. least ≤ k) ks → AllByRecursion (λ k. 1 ≤ k) ks
 each-some least [] some all = tt
 each-some least (k ∷ ks) some all = (let here = all.0 in omega (arith, here, some), each-some least ks some all.1)
@@ -95,7 +91,7 @@ one-all size bytes run some byte enough =
 row-all : (size threshold bytes want : ℕ) (runs : List Extent) → 0 < size → 1 ≤ threshold → 1 ≤ bytes → page_count size bytes ≤ want →
     AreRowsOf threshold (record { want = want; need = page_count size bytes }) (pages_of runs) → HaveAll bytes (segments_on size bytes runs)
 row-all size threshold bytes want runs some least byte wish (inl whole) =
-    let one = one-size want runs whole in
+    let one = one-run want runs whole in
     subst (λ (rs : List Extent). HaveAll bytes (segments_on size bytes rs)) (sym one.1)
     (one-all size bytes one.0 some byte (omega (arith, one.2, wish)))
 row-all size threshold bytes want runs some least byte wish (inr halves) =

@@ -1,17 +1,15 @@
 -- A planned change as a whole: what its steps come to.
-use Rattle.std.proofs.Common.{zero, ◌≡◌, ℕ, suc, ◌+◌, ◌-◌, ◌*◌, ◌<◌, ◌≤◌, ◌^◌, ◌⊎◌}
-use Rattle.std.proofs.Common.{Bool, true, false, IsTrue, List, [], ◌∷◌, ◌++◌, length, map, sum}
-use Rattle.std.proofs.Common.{take, drop, Option, Some, None, refl, sym, ap, subst, arith, ◌∙◌, inl, inr, ◌||◌}
-use Rattle.std.specs.Prelude.{Result, Ok, Err, IfOk, IfSome, is_some, if◌then◌else◌}
-use Rattle.std.specs.List.{AllByRecursion, flat_map}
+use Rattle.std.proofs.Common.{◌≡◌, ℕ, suc, ◌+◌, ◌-◌, ◌<◌, ◌≤◌}
+use Rattle.std.proofs.Common.{Bool, true, false, IsTrue, List, [], ◌∷◌, ◌++◌, length, map}
+use Rattle.std.proofs.Common.{drop, Option, Some, None, refl, sym, ap, subst, arith, ◌∙◌, inl, inr, ◌||◌}
+use Rattle.std.specs.Prelude.{IfSome, is_some, if◌then◌else◌}
+use Rattle.std.specs.List.{AllByRecursion}
 use Rattle.std.proofs.lemmas.Bool.{cases_lt, false≢true}
-use Rattle.std.proofs.lemmas.List.{append-nil, drop-map, length-drop, take-append-drop}
+use Rattle.std.proofs.lemmas.List.{append-nil, drop-map}
 use Rattle.std.proofs.lemmas.List.Concat.{flat_map-cons}
-use Rattle.std.proofs.lemmas.List.Sums.{sum_by-cons}
 use Rattle.change_laws.proofs.AppendLemmas.{past-some}
-use Rattle.base_laws.proofs.ListLaws.{all-append, all-map}
-use Rattle.base_laws.proofs.OptionLaws.{some-inner}
-use Rattle.geometry_model.specs.Numbers.{Numbers, IsInRange, space_pages}
+use Rattle.base_laws.proofs.ListLaws.{all-map}
+use Rattle.geometry_model.specs.Numbers.{Numbers}
 use Rattle.fault_count.specs.Counts.{Meter}
 use Rattle.tree_model.specs.declared.entry.Pair.{Pair}
 use Rattle.tree_model.specs.Tree.{page_count}
@@ -19,23 +17,19 @@ use Rattle.layout_model.specs.declared.extent.Extent.{Extent}
 use Rattle.layout_model.specs.declared.fit.Fit.{Fit}
 use Rattle.layout_model.specs.declared.fit.Fit.TheVariants.{Extend, Follow, Fresh}
 use Rattle.layout_model.specs.declared.request.Request.{Request}
-use Rattle.layout_model.specs.Layout.{Tree, as_run, laid_entries, laid_parts, left_over, spare_after, spare_behind}
-use Rattle.layout_model.specs.Plan.{Plan, extent, extent_pages, last_entry, made_part_bytes, past}
+use Rattle.layout_model.specs.Layout.{Tree, as_run, laid_parts, left_over, spare_after, spare_behind}
+use Rattle.layout_model.specs.Plan.{Plan, extent, last_entry, made_part_bytes, past}
 use Rattle.let_go_laws.specs.LetGo.{spare_run}
 use Rattle.moment_model.specs.Version.{spare_uses, uses, version_uses}
 use Rattle.moment_laws.specs.Granting.{LiesInSpace, page_run, runs_of_parts}
-use Rattle.span_store.specs.Held.{AllSized, Held, HoldsRun, bytes_on, has, page_at}
-use Rattle.page_cache.specs.Kept.{KeptNodes}
-use Rattle.superdirectory.specs.Rest.{Frame, Rest, count}
-use Rattle.superdirectory.specs.Grants.{IsRunIn}
+use Rattle.moment_laws.proofs.GrantLemmas.{uses-cons}
+use Rattle.span_store.specs.Held.{Held, HoldsRun, bytes_on, has, page_at}
+use Rattle.superdirectory.specs.Rest.{Frame, count}
 use Rattle.tree_splice.specs.Splice.{ArePagesIn}
 use Rattle.edit_parts.specs.declared.part.Part.{Part}
 use Rattle.edit_parts.specs.declared.part.Part.TheVariants.{Keep, Make}
 use Rattle.edit_parts.specs.Parts.{layout_part, pieces_of}
 use Rattle.edit_parts.specs.Pieces.{pieces_bytes}
-use Rattle.content_laws.specs.Spelling.{IsPacked}
-use Rattle.part_bytes.specs.Gathering.{CanGather}
-use Rattle.part_bytes.specs.Parts.{IsApart}
 use Rattle.part_bytes.specs.Runs.{HoldsRuns}
 use Rattle.part_store.specs.Asking.{AreOfAll, rows}
 use Rattle.written_laws.proofs.PieceLemmas.{runs-apart}
@@ -46,16 +40,14 @@ use Rattle.object_plan.specs.declared.working_tree.WorkingTree.{WorkingTree}
 use Rattle.object_plan.specs.Planned.{CanMake, IsHeldEntry}
 use Rattle.object_plan.specs.WorkingTree.{tree_on}
 use Rattle.held_parts.specs.Asking.{AreBare, AreRunsFor}
-use Rattle.held_parts.specs.Holding.{HoldsGranted, HoldsSame, KeepsRight}
+use Rattle.held_parts.specs.Holding.{HoldsGranted, KeepsRight}
 use Rattle.object_change.specs.Calls.{CanMakeChange}
 use Rattle.object_change.specs.Changed.{IsEndOf, IsEndOfOne, parts_plan}
 use Rattle.give_back.specs.Giving.{IsOwnRun, is_in_runs}
-use Rattle.object_change.specs.Scene.{used_spare}
 use Rattle.object_change.specs.Scene.{HoldsSpare, Scene}
-use Rattle.object_change.specs.Steps.{CanChangeOn, CanPut, put_runs}
+use Rattle.object_change.specs.Steps.{CanChangeOn, put_runs}
 use Rattle.object_change.proofs.ChangeLemmas.{sum-fits}
-use Rattle.object_change.proofs.StayLemmas.{SameTree, plan-stays, stays-on, tree-same, working-stays}
-use Rattle.give_back.proofs.UsesLemmas.{in-some, none-in, uses-cons}
+use Rattle.object_change.proofs.StayLemmas.{plan-stays, stays-on, tree-same, working-stays}
 
 -- ---- what was held stays, with the same on it, once runs are held besides
 

@@ -1,5 +1,5 @@
 -- Which runs begin at a page, and runs of one page each.
-use Rattle.std.proofs.Common.{◌≡◌, ℕ, ◌==◌, ◌||◌, Bool, true, false, List, [], ◌∷◌, ◌++◌, map, refl, ap, arith, ◌∙◌}
+use Rattle.std.proofs.Common.{◌≡◌, ℕ, ◌==◌, ◌||◌, Bool, List, [], ◌∷◌, ◌++◌, map, refl, ap, arith, ◌∙◌}
 use Rattle.std.proofs.lemmas.Bool.Decides.{nat_tests}
 use Rattle.layout_model.specs.declared.extent.Extent.{Extent}
 use Rattle.moment_laws.specs.Granting.{page_run}
@@ -8,10 +8,7 @@ use Rattle.tree_splice.specs.Fresh.{is_on_pages}
 use Rattle.give_back.specs.Giving.{is_in_runs}
 use Rattle.give_back.proofs.UsesLemmas.{in-cons}
 use Rattle.held_parts.specs.Holding.{begins_one}
-
-or-assoc : (a b d : Bool) → (a || (b || d)) ≡ ((a || b) || d)
-or-assoc true b d = refl
-or-assoc false b d = refl
+use Rattle.base_laws.proofs.BoolLaws.{or-assoc}
 
 pub begins-append : (q : ℕ) (xs ys : List Extent) → begins_one (xs ++ ys) q ≡ (begins_one xs q || begins_one ys q)
 begins-append q [] ys = refl

@@ -41,7 +41,8 @@ use Rattle.held_parts.specs.Entries.{HaveRuns}
 use Rattle.object_change.specs.Changed.{parts_plan}
 use Rattle.object_change.specs.Scene.{HoldsSpare, filled_pages}
 use Rattle.object_change.specs.Steps.{CanPut, StandPut, PutsNewBytes, first_made, put_runs}
-use Rattle.give_back.proofs.UsesLemmas.{covers-few, uses-cons}
+use Rattle.give_back.proofs.UsesLemmas.{covers-few}
+use Rattle.moment_laws.proofs.GrantLemmas.{uses-cons}
 
 -- ---- parts on the runs that were granted for them
 

@@ -1,10 +1,10 @@
 -- A planned change that was made, or refused, from what its steps say.
-use Rattle.std.proofs.Common.{◌≡◌, ℕ, ◌+◌, ◌*◌, ◌<◌, ◌≤◌, ◌^◌, ◌⊎◌, Bool, true}
-use Rattle.std.proofs.Common.{false, IsTrue, List, [], ◌∷◌, ◌++◌, length, map, sum, take, drop}
+use Rattle.std.proofs.Common.{◌≡◌, ℕ, ◌+◌, ◌≤◌, Bool}
+use Rattle.std.proofs.Common.{IsTrue, List, [], ◌∷◌, ◌++◌, length, map, sum, take, drop}
 use Rattle.std.proofs.Common.{Option, Some, None, refl, sym, ap, subst, arith, ◌∙◌, inl, append_assoc}
-use Rattle.std.specs.Prelude.{Result, Ok, Err, IfOk, IfSome, is_some, unwrap_or}
+use Rattle.std.specs.Prelude.{Result, Ok, Err, IfSome}
 use Rattle.std.specs.List.{AllByRecursion}
-use Rattle.std.proofs.lemmas.Bool.{cases_lt, false≢true}
+use Rattle.std.proofs.lemmas.Bool.{false≢true}
 use Rattle.std.proofs.lemmas.List.{drop-map, length-map, take-map}
 use Rattle.std.proofs.lemmas.Simd.{map-map}
 use Rattle.base_laws.proofs.ListLaws.{all-append}
@@ -23,26 +23,25 @@ use Rattle.change_laws.proofs.NodeCountLemmas.{made-alike}
 use Rattle.page_set.specs.declared.page_run.PageRun.{PageRun}
 use Rattle.tree_model.specs.declared.tree.Root.{Root}
 use Rattle.let_go_laws.specs.LetGo.{spare_run}
-use Rattle.moment_model.specs.Version.{spare_uses, uses, version_uses}
+use Rattle.moment_model.specs.Version.{spare_uses, uses}
 use Rattle.moment_laws.specs.Granting.{LiesInSpace, page_run, runs_of_parts}
-use Rattle.moment_laws.proofs.GrantLemmas.{uses-append}
+use Rattle.moment_laws.proofs.GrantLemmas.{uses-cons}
 use Rattle.node_codec.specs.PairList.{PairList}
 use Rattle.page_cache.specs.Kept.{KeptNodes}
 use Rattle.space_directory.specs.SpaceView.{SpaceView}
-use Rattle.span_store.specs.Held.{Held, bytes_on, has, page_at}
-use Rattle.superdirectory.specs.Grants.{AreTold, KeepsFrame, free_sets}
+use Rattle.span_store.specs.Held.{Held, bytes_on}
+use Rattle.superdirectory.specs.Grants.{AreTold, free_sets}
 use Rattle.superdirectory.specs.Parts.{IsLaid}
 use Rattle.superdirectory.specs.Rest.{Frame, Rest, count}
-use Rattle.superdirectory.specs.Trace.{SpaceEvent, Part, AreEnters, IsLow}
+use Rattle.superdirectory.specs.Trace.{SpaceEvent, AreEnters}
 use Rattle.superdirectory.proofs.Traces.{low_left, low_right, part_as, part_then}
 use Rattle.part_store.specs.Asking.{AreOfAll, rows}
 use Rattle.tree_splice.specs.declared.new_tree.Spliced.{Spliced}
-use Rattle.tree_splice.specs.Splice.{HoldsNew, extent_of, firsts_of, single_run}
+use Rattle.tree_splice.specs.Splice.{extent_of, firsts_of, single_run}
 use Rattle.object_body.specs.declared.fails.EditFail.{EditFail}
 use Rattle.object_body.specs.declared.fails.EditFail.TheVariants.{Fault, Memory, NoSpace}
-use Rattle.object_body.specs.Calls.{AreLow}
 use Rattle.object_body.specs.Moves.{IsUntouched}
-use Rattle.object_body.specs.Places.{AreHome, IsReady, IsStore}
+use Rattle.object_body.specs.Places.{AreHome, IsStore}
 use Rattle.object_body.proofs.MoveLemmas.{same-untouched}
 use Rattle.object_plan.specs.declared.planned.Planned.{Planned}
 use Rattle.object_plan.specs.declared.working_tree.WorkingTree.{WorkingTree}
@@ -52,12 +51,12 @@ use Rattle.object_change.specs.declared.changed.Changed.{Changed}
 use Rattle.held_parts.specs.declared.part_runs.PartRuns.{PartRuns}
 use Rattle.object_change.specs.Calls.{CanMakeChange, MakesChange, WritesChange}
 use Rattle.object_change.specs.Changed.{HasChanged, IsEndOfOne, IsToldChange, granted_in, grants_in, parts_plan}
-use Rattle.give_back.specs.Giving.{AreLetGo, CanGiveRuns, IsLeft, LeavesNodes, LetsGo, gives, is_in_runs}
+use Rattle.give_back.specs.Giving.{AreLetGo, CanGiveRuns, LeavesNodes, LetsGo, gives, is_in_runs}
 use Rattle.object_change.specs.Scene.{used_spare}
-use Rattle.object_change.specs.Scene.{Scene, filled_pages}
+use Rattle.object_change.specs.Scene.{Scene}
 use Rattle.held_parts.specs.Asking.{AreRunsFor, AsksRuns}
-use Rattle.held_parts.specs.Holding.{HoldsGranted, HoldsSame, KeepsRight}
-use Rattle.held_parts.specs.Spaces.{AreTakenOut, HaveGranted, IsFewRefused, IsGrantAnswer, IsLowFor}
+use Rattle.held_parts.specs.Holding.{HoldsGranted}
+use Rattle.held_parts.specs.Spaces.{AreTakenOut, IsFewRefused, IsGrantAnswer, IsLowFor}
 use Rattle.object_change.specs.Steps.{ChangesOn, HasExchanged, IsChangedTo, put_runs}
 use Rattle.held_parts.proofs.HeldLemmas.{same-left, same-used}
 use Rattle.object_change.proofs.HeldLemmas.{granted-made, granted-same, granted-written}
@@ -65,8 +64,7 @@ use Rattle.object_change.proofs.ChangeLemmas.{entries-plan}
 use Rattle.object_change.proofs.MakeLemmas.{IsSpareOf, pages-lie, spare-front, spare-lies}
 use Rattle.object_change.proofs.RowLemmas.{rows-flat}
 use Rattle.held_parts.proofs.AskLemmas.{store-laid}
-use Rattle.held_parts.proofs.SpaceLemmas.{taken-then, told-same, untouched-then}
-use Rattle.give_back.proofs.UsesLemmas.{uses-cons}
+use Rattle.held_parts.proofs.SpaceLemmas.{taken-then, untouched-then}
 
 -- ---- the rule of grants
 

@@ -21,3 +21,12 @@ pub mod CutLemmas
 pub mod RunSetLemmas
 pub mod GrownLemmas
 pub mod RefusedLemmas
+pub mod GoneLemmas
+pub mod LaidBesideLemmas
+pub mod ToldBesideLemmas
+pub mod ReadyLemmas
+pub mod WorkingTreeLemmas
+pub mod ChangeMadeLemmas
+pub mod ChangeRefusedLemmas
+pub mod OnHeldLemmas
+pub mod ChangeTreeLemmas

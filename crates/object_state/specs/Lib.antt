@@ -11,4 +11,6 @@ pub mod Idle
 pub mod Made
 pub mod Cuts
 pub mod Runs
+pub mod Changing
+pub mod Changes
 pub mod Laws

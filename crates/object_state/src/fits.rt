@@ -8,7 +8,7 @@ use page_port::Geometry;
 use tree_model::Pair;
 
 /// The pages that so many bytes fill, the last one maybe in part.
-fn pages_of(geometry: &Geometry, bytes: u64) -> u64
+pub fn pages_of(geometry: &Geometry, bytes: u64) -> u64
     ensures { result ≡ page_count geometry.now.page bytes }
 {
     bytes.div_ceil(geometry.page() as u64)

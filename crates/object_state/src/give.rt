@@ -2,7 +2,7 @@
 //! these calls takes memory.
 
 ghost use Rattle.std.specs.Prelude.{◌≡◌, ℕ, ◌+◌, ◌^◌, ◌<◌, ◌≤◌, IsTrue, IfSome};
-ghost use Rattle.geometry_model.specs.Pages.{IsPlace, is_data_page};
+ghost use Rattle.geometry_model.specs.Pages.{is_data_page};
 ghost use Rattle.layout_model.specs.declared.extent.Extent.{Extent};
 ghost use Rattle.page_set.specs.Words.{in_set};
 ghost use Rattle.span_store.specs.Held.{AllSized};
@@ -12,24 +12,13 @@ ghost use Rattle.object_state.specs.Keeps.{AreOnData, IsMarked, in_spare};
 ghost use Rattle.give_back.specs.Giving.{IsWholeRun, LeavesNodes, LeavesSized, LetsGo, gives};
 ghost use Rattle.object_state.specs.Ends.{unlocks};
 
-use give_back::give_run;
+use give_back::{give_run, space_of};
 use layout_model::Extent;
 use page_cache::Cache;
 use page_port::{Geometry, Span};
 use page_set::PageSet;
 use span_store::Holdings;
 use superdirectory::{Hints, Latches, unlock_run};
-
-/// The space of a data page.
-pub fn space_of(geometry: &Geometry, page: u32) -> u16
-    requires { IsTrue (is_data_page geometry.now page) }
-    ensures { (at : ℕ) × IsPlace geometry.now page result at }
-{
-    match geometry.place(page) {
-        Some((space, _)) => space,
-        None => unreachable!(),
-    }
-}
 
 /// Gives the spare pages back to their space.
 pub fn give_spare<S: Span, L: Latches<S = S>>(

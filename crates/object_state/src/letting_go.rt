@@ -11,8 +11,7 @@ ghost use Rattle.object_state.specs.Keeps.{IsMarked};
 ghost use Rattle.give_back.specs.Giving.{IsWholeRun};
 ghost use Rattle.object_state.specs.Drops.{CanDrop, Drops, IsOneSpan};
 
-use crate::give::space_of;
-use give_back::give_run;
+use give_back::{give_run, space_of};
 use layout_model::Extent;
 use page_cache::Cache;
 use page_port::{Geometry, Span};

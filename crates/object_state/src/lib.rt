@@ -2,8 +2,12 @@
 //! ends of a transaction make of them.
 #![tactic(auto)]
 
+mod body;
+mod change_runs;
+mod changes;
 mod creating;
 mod cutting;
+mod editing;
 mod fits;
 mod gathering;
 mod give;

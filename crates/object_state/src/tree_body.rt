@@ -47,15 +47,15 @@ const KEPT_NODES: usize = 16;
 /// an end moves no byte: it gives pages back.
 #[derive(Drop)]
 pub struct TreeBody<P: Port> {
-    alloc: Global,
-    geometry: Geometry,
-    committed: Kept,
-    working: Kept,
-    spare: Option<Extent>,
-    held: Holdings<P::S>,
-    cache: Cache,
-    fresh: PageSet,
-    locked: PageSet,
+    pub(crate) alloc: Global,
+    pub(crate) geometry: Geometry,
+    pub(crate) committed: Kept,
+    pub(crate) working: Kept,
+    pub(crate) spare: Option<Extent>,
+    pub(crate) held: Holdings<P::S>,
+    pub(crate) cache: Cache,
+    pub(crate) fresh: PageSet,
+    pub(crate) locked: PageSet,
 }
 
 impl<P: Port> Model for TreeBody<P> {

@@ -25,7 +25,8 @@ use Rattle.part_bytes.specs.Gathering.{CanGather, pieces_reads}
 use Rattle.part_bytes.specs.Runs.{CanWriteOn, HoldsRuns, StandOn, ChangesRuns}
 use Rattle.part_bytes.specs.Parts.{ReadsThenWrites, ReadsAndWrites, IsApart, CanWritePart, CanWriteEach, PartsStand}
 use Rattle.part_bytes.specs.Parts.{parts_reads, parts_pages}
-use Rattle.part_bytes.proofs.RunLemmas.{StandFrom-same, covers_in}
+use Rattle.part_bytes.proofs.RunLemmas.{StandFrom-same}
+use Rattle.moment_laws.proofs.GrantLemmas.{covers-on}
 
 -- ---- what moved
 
@@ -63,7 +64,7 @@ uses_parted : (q n : ℕ) (runs : List Extent) → uses q (take n runs) + uses q
 uses_parted q n runs = sum_by-take-drop (covers q) runs n
 
 -- bytes stay on runs whose pages stay
-StandOn-same : (at other : Pages) (size : ℕ) (runs : List Extent) (bytes : List ℕ) → 0 < size →
+pub StandOn-same : (at other : Pages) (size : ℕ) (runs : List Extent) (bytes : List ℕ) → 0 < size →
     ((q : ℕ) → 0 < uses q runs → at q ≡ other q) → StandOn other size runs bytes → StandOn at size runs bytes
 StandOn-same at other size [] bytes some same stands = tt
 StandOn-same at other size (run ∷ runs) bytes some same stands =
@@ -72,7 +73,7 @@ StandOn-same at other size (run ∷ runs) bytes some same stands =
     (omega (arith, length-take (run.pages * size) bytes)) in (
       StandFrom-same at other size run.page (take (run.pages * size) bytes)
           (λ q first last.
-          let one = covers_in q run first (omega (arith, last, few)) in
+          let one = covers-on q run first (omega (arith, last, few)) in
           same q (omega (arith, sum_by-cons (covers q) run runs, one))) stands.0,
       StandOn-same at other size runs (drop (run.pages * size) bytes) some
           (λ q more. same q (omega (arith, sum_by-cons (covers q) run runs, more))) stands.1,

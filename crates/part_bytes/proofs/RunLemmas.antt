@@ -1,7 +1,7 @@
 -- Bytes on runs of pages: which pages they are on, and the segments that they are.
 use Rattle.std.proofs.Common.{inl, inr, ◌⊎◌, ◌≡◌, ℕ, ◌+◌, ◌-◌, ◌*◌, ◌<◌, ◌≤◌, min, List, [], ◌∷◌, ◌++◌, length, map, take, drop}
 use Rattle.std.proofs.Common.{refl, sym, ap, ◌∙◌, subst, arith}
-use Rattle.std.proofs.lemmas.Bool.{cases_lt, le-leb, lt-ltb}
+use Rattle.std.proofs.lemmas.Bool.{cases_lt}
 use Rattle.std.proofs.lemmas.List.{length-take, length-drop, take-append-drop}
 use Rattle.std.proofs.lemmas.List.Sums.{sum_by-cons}
 use Rattle.std.proofs.lemmas.List.Concat.{flat_map-cons}
@@ -16,6 +16,7 @@ use Rattle.moment_model.specs.Version.{covers}
 use Rattle.span_store.proofs.Runs.{run_bytes-same}
 use Rattle.seg_bytes.specs.Written.{StandFrom}
 use Rattle.part_bytes.specs.Runs.{StandOn}
+use Rattle.moment_laws.proofs.GrantLemmas.{covers-on}
 
 -- bytes stand where they stood, as long as their pages are the same
 pub StandFrom-same : (at other : Pages) (size first : ℕ) (bytes : List ℕ) →
@@ -81,14 +82,11 @@ StandOn-content at size (run ∷ runs) bytes some room stands =
 
 -- ---- pages of runs
 
-pub covers_in : (q : ℕ) (run : Extent) → run.page ≤ q → q < run.page + run.pages → covers q run ≡ 1
-covers_in q run from to = rw (le-leb run.page q from, lt-ltb q (run.page + run.pages) to) refl
-
 pub covers_off : (q : ℕ) (run : Extent) → covers q run ≡ 0 → (q < run.page) ⊎ (run.page + run.pages ≤ q)
 covers_off q run e = elim (cases_lt q run.page) [
   | inl before ↦ inl before
   | inr from ↦ elim (cases_lt q (run.page + run.pages)) [
-    | inl to ↦ absurd (let one = covers_in q run (omega (arith, from)) to in omega (arith, one, e))
+    | inl to ↦ absurd (let one = covers-on q run (omega (arith, from)) to in omega (arith, one, e))
     | inr behind ↦ inr (omega (arith, behind))
   ]
 ]

@@ -17,7 +17,8 @@ use Rattle.seg_bytes.specs.Segments.{HoldsBytes}
 use Rattle.seg_bytes.specs.Written.{StandFrom, ChangesAlone}
 use Rattle.std.proofs.lemmas.List.Sums.{sum_by-cons}
 use Rattle.part_bytes.specs.Runs.{HoldsRuns, StandOn, ChangesRuns}
-use Rattle.part_bytes.proofs.RunLemmas.{StandFrom-same, count-stretch, covers_in, covers_off}
+use Rattle.part_bytes.proofs.RunLemmas.{StandFrom-same, count-stretch, covers_off}
+use Rattle.moment_laws.proofs.GrantLemmas.{covers-on}
 
 -- These runs are left, and so many bytes are written on those before. Whatever the pages of the runs
 -- that are left come to hold, with the bytes that are left on them all bytes stand on all runs.
@@ -160,7 +161,7 @@ writing_more told size runs left rest run bytes part from count old now mid befo
       stands = λ t at same behind.
           let here : StandFrom at size run.page part =
           StandFrom-same at (bytes_on mid) size run.page part (λ q first last.
-          let one = covers_in q run first (omega (arith, last, few)) in
+          let one = covers-on q run first (omega (arith, last, few)) in
           same q (omega (arith, one, w.once q, sum q))) (stands t) in
           w.stands t at (λ q off.
           let gone : covers q run ≡ 0 = omega (arith, off, sum q) in

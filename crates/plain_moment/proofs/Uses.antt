@@ -11,15 +11,11 @@ use Rattle.moment_model.specs.Version.{covers, uses}
 use Rattle.moment_model.specs.Moment.{ObjectSlot, Moment, committed_uses, working_uses, all_committed, all_working}
 use Rattle.moment_model.specs.Moment.{is_free, is_locked, tests_in, free_in, locked_in, free_of, locked_of}
 use Rattle.moment_model.specs.Moment.{count_pages}
-use Rattle.moment_laws.proofs.GrantLemmas.{uses-append}
+use Rattle.moment_laws.proofs.GrantLemmas.{uses-append, uses-cons}
 use Rattle.plain_moment.specs.Testing.{is_in}
 
--- a run before others
-pub uses_more : (page : ℕ) (x : Extent) (xs : List Extent) → uses page (x ∷ xs) ≡ covers page x + uses page xs
-uses_more page x xs = sum_by-cons (covers page) x xs
-
 pub uses_one : (page : ℕ) (x : Extent) → uses page (x ∷ []) ≡ covers page x
-uses_one page x = omega (arith, uses_more page x [])
+uses_one page x = omega (arith, uses-cons page x [])
 
 -- one slot before others
 pub committed_more : (n : Numbers) (page : ℕ) (slot : ObjectSlot) (rest : Moment) →
@@ -37,7 +33,7 @@ both_unused false c u v e s = let h : v ≡ u = omega arith in rw h refl
 
 pub unused_more : (page : ℕ) (x : Extent) (xs : List Extent) (b : Bool) → (if b then 1 else 0) ≡ covers page x →
     nat_eq (uses page (x ∷ xs)) 0 ≡ (not b && nat_eq (uses page xs) 0)
-unused_more page x xs b e = both_unused b (covers page x) (uses page xs) (uses page (x ∷ xs)) e (uses_more page x xs)
+unused_more page x xs b e = both_unused b (covers page x) (uses page xs) (uses page (x ∷ xs)) e (uses-cons page x xs)
 
 -- two functions that agree make equal lists
 map_same : {X Y : Type 0} (f g : X → Y) → ((x : X) → f x ≡ g x) → (xs : List X) → map f xs ≡ map g xs

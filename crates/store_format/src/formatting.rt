@@ -150,8 +150,8 @@ fn put_blank_front(room: &mut [u8], geometry: &Geometry)
     put_zeros(room, size);
 }
 
-/// Puts the superblock on the first page of `room`.
-fn put_super(room: &mut [u8], geometry: &Geometry)
+/// Puts the superblock on the first page of `room`, in the form of version 2.
+pub fn put_super(room: &mut [u8], geometry: &Geometry)
     requires { geometry.now.page ≤ length room.old }
     ensures { take geometry.now.page room.new
         ≡ super_bytes 2 geometry.now ++ replicate (geometry.now.page - 256) 0 }

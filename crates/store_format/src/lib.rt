@@ -11,5 +11,5 @@ mod formatting;
 mod tests;
 mod writing;
 
-pub use formatting::format;
+pub use formatting::{format, put_super};
 pub use writing::{write_page, write_run};

@@ -1,5 +1,6 @@
 -- What stays true of told spaces when one of them changes: each is a space, on its run.
-use Rattle.std.proofs.Common.{inl, inr, ◌≡◌, ℕ, ◌+◌, ◌-◌, ◌<◌, ◌≤◌, false, List, length, set, Some, sym, ap, ◌∙◌, subst, arith}
+use Rattle.std.proofs.Common.{inl, inr, ◌≡◌, ℕ, ◌+◌, ◌-◌, ◌<◌, ◌≤◌, false, List, [], ◌∷◌, length, map, set, Some, refl, sym, ap}
+use Rattle.std.proofs.Common.{◌∙◌, subst, arith}
 use Rattle.std.proofs.lemmas.Bool.{cases_eq}
 use Rattle.std.proofs.lemmas.List.{length-set}
 use Rattle.std.proofs.lemmas.Option.{slice_get_within}
@@ -9,8 +10,8 @@ use Rattle.base_laws.proofs.OptionLaws.{some-inner}
 use Rattle.block_model.proofs.Changes.{length-with_run}
 use Rattle.space_directory.specs.SpaceView.{SpaceView, IsSpace, after_grant, after_give, after_lock, after_unlock}
 use Rattle.space_directory.proofs.Spaces.{granted_sound, given_sound, locked_sound, unlocked_sound}
-use Rattle.superdirectory.specs.Rest.{Frame, IsOf}
-use Rattle.superdirectory.specs.Grants.{IsRunIn}
+use Rattle.superdirectory.specs.Rest.{Frame, IsOf, Rest}
+use Rattle.superdirectory.specs.Grants.{AreTold, IsRunIn}
 use Rattle.superdirectory.proofs.Spots.{given_home, locked_home, unlocked_home}
 
 -- what holds of each told space and of the one that takes a place holds of each afterwards
@@ -64,3 +65,15 @@ unlocked_stays frame s first n v run sound home = (
   unlocked_sound v (first - v.first) n sound (run_fits frame s first n v run home),
   unlocked_home frame s first n v home,
 )
+
+some-lists : (a b : List SpaceView) → map Some a ≡ map Some b → a ≡ b
+some-lists [] [] same = refl
+some-lists [] (y ∷ b) same = cc
+some-lists (x ∷ a) [] same = cc
+some-lists (x ∷ a) (y ∷ b) same =
+    (let first : x ≡ y = cc in let rest : map Some a ≡ map Some b = cc in
+    ap (λ (v : SpaceView). v ∷ a) first ∙ ap (λ (vs : List SpaceView). y ∷ vs) (some-lists a b rest))
+
+-- the told spaces are one list
+pub told-same : (rest : Rest) (a b : List SpaceView) → AreTold rest a → AreTold rest b → a ≡ b
+told-same rest a b first second = some-lists a b (some-inner (map Some a) (map Some b) (sym first ∙ second))

@@ -14,6 +14,7 @@ use Rattle.span_store.specs.Calls.{IsAdded}
 use Rattle.span_store.proofs.SpanLists.{page_of-before, page_of-behind}
 use Rattle.tree_splice.specs.Fresh.{FreshPage, AreAllOf, ArePagesApart, fresh_at, fresh_page, is_on_pages, page_numbers}
 use Rattle.tree_splice.proofs.FreshLemmas.{one-sized}
+use Rattle.base_laws.proofs.BoolLaws.{or-assoc}
 
 apart-mid : (before done : List FreshPage) (p : FreshPage) → ArePagesApart (before ++ p ∷ done) → fresh_at done p.page ≡ None
 apart-mid [] done p apart = apart.0
@@ -22,10 +23,6 @@ apart-mid (x ∷ before) done p apart = apart-mid before done p apart.1
 or-true : (b : Bool) → (b || true) ≡ true
 or-true true = refl
 or-true false = refl
-
-or-assoc : (a b d : Bool) → (a || (b || d)) ≡ ((a || b) || d)
-or-assoc true b d = refl
-or-assoc false b d = refl
 
 in-mid : (before done : List FreshPage) (p : FreshPage) → is_on_pages p.page (page_numbers (before ++ p ∷ done)) ≡ true
 in-mid [] done p = ap (λ (b : Bool). b || is_on_pages p.page (page_numbers done)) (eq-eqb p.page p.page refl)

@@ -6,7 +6,6 @@ use Rattle.std.proofs.Math.Seq.{map-set}
 use Rattle.std.proofs.lemmas.List.{map-append, set-set}
 use Rattle.std.proofs.lemmas.Option.{slice_get_within}
 use Rattle.base_laws.proofs.ListLaws.{slice_get-set_same}
-use Rattle.base_laws.proofs.OptionLaws.{some-inner}
 use Rattle.geometry_model.specs.Numbers.{Numbers}
 use Rattle.block_model.specs.Block.{with_run}
 use Rattle.block_model.proofs.Runs.{HasRun-within}
@@ -18,7 +17,7 @@ use Rattle.superdirectory.specs.Parts.{IsLaid, AnswersHalved}
 use Rattle.superdirectory.specs.Rest.{Frame, Rest, IsOf, count}
 use Rattle.superdirectory.proofs.GrantLaws.{given_back, run_none, around_all}
 use Rattle.superdirectory.proofs.Halves.{Grants, adds_placed, taken_append, taken_length, restored}
-use Rattle.superdirectory.proofs.HomeLaws.{each_changed, granted_stays, given_stays}
+use Rattle.superdirectory.proofs.HomeLaws.{each_changed, granted_stays, given_stays, told-same}
 use Rattle.superdirectory.proofs.Spots.{exact_none, set_same}
 use Rattle.tree_splice.specs.Fresh.{FreshPage, AreTaken, AreGiven, AreHomely, GivesBack, IsPagesAnswer, ArePagesAsked}
 use Rattle.tree_splice.specs.Fresh.{AreSamePages, emptied, page_numbers}
@@ -128,18 +127,6 @@ pub asked-none : (views : List SpaceView) (start : ℕ) (frame : Frame) (rest : 
     ArePagesAsked views start 0 frame []
     (Ok tt) rest
 asked-none views start frame rest told = record { after = views; taken = refl; told = told; answer = λ numbers laid. refl }
-
--- the told spaces are one list
-map-some : (a b : List SpaceView) → map Some a ≡ map Some b → a ≡ b
-map-some [] [] same = refl
-map-some [] (y ∷ b) same = cc
-map-some (x ∷ a) [] same = cc
-map-some (x ∷ a) (y ∷ b) same =
-    (let first : x ≡ y = cc in let rest : map Some a ≡ map Some b = cc in
-    ap (λ (v : SpaceView). v ∷ a) first ∙ ap (λ (vs : List SpaceView). y ∷ vs) (map-some a b rest))
-
-told-same : (rest : Rest) (a b : List SpaceView) → AreTold rest a → AreTold rest b → a ≡ b
-told-same rest a b first second = map-some a b (some-inner (map Some a) (map Some b) (sym first ∙ second))
 
 pub asked-one : (tells : Bool) (views : List SpaceView) (start : ℕ) (frame : Frame) (old new : Rest) (p : FreshPage) →
     AreTold old views → length views ≡ length frame.firsts → IsSegmentIn frame 1 p.space p.page (p.bytes ∷ []) tells →

@@ -49,7 +49,7 @@ all-same : (a b : ℕ) (xs : List ℕ) → a ≡ b → AllByRecursion (λ n. a �
 all-same a b xs same all = subst (λ (k : ℕ). AllByRecursion (λ n. k ≤ n) xs) same all
 
 -- one run of these pages
-one-run : (pages : ℕ) (runs : List Extent) → pages_of runs ≡ pages ∷ [] → (run : Extent) × (runs ≡ run ∷ []) × (run.pages ≡ pages)
+pub one-run : (pages : ℕ) (runs : List Extent) → pages_of runs ≡ pages ∷ [] → (run : Extent) × (runs ≡ run ∷ []) × (run.pages ≡ pages)
 one-run pages [] same = absurd cc
 one-run pages (run ∷ []) same = (run, refl, cc)
 one-run pages (run ∷ next ∷ rest) same = absurd cc

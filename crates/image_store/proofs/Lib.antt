@@ -1,0 +1,5 @@
+pub mod ObjectLemmas
+pub mod CatalogLemmas
+pub mod SpanLemmas
+pub mod ClosingLemmas
+pub mod FixedLemmas

@@ -1,0 +1,5 @@
+pub mod ReturningLemmas
+pub mod SpaceLemmas
+pub mod HeldLemmas
+pub mod PartLemmas
+pub mod AbandonLemmas

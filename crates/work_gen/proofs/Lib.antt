@@ -1,0 +1,4 @@
+mod RunLemmas
+mod SumLemmas
+mod TextLemmas
+mod Worked
