@@ -42,36 +42,28 @@ int posix_memalign(void **out, size_t align, size_t size) {
     return *out ? 0 : 12;
 }
 
-extern ssize_t pread(int file, void *out, size_t size, off_t at);
-extern ssize_t pwrite(int file, const void *bytes, size_t size, off_t at);
-extern ssize_t pread64(int file, void *out, size_t size, off64_t at);
-extern ssize_t pwrite64(int file, const void *bytes, size_t size, off64_t at);
+/* Both names of a call: with and without its 64-bit offset spelled out. */
+#define COUNTED_READ(name, offset) \
+    extern ssize_t name(int file, void *out, size_t size, offset at); \
+    ssize_t name(int file, void *out, size_t size, offset at) { \
+        reads++; \
+        read_bytes += size; \
+        calls++; \
+        return NEXT(name)(file, out, size, at); \
+    }
 
-ssize_t pread(int file, void *out, size_t size, off_t at) {
-    reads++;
-    read_bytes += size;
-    calls++;
-    return NEXT(pread)(file, out, size, at);
-}
+#define COUNTED_WRITE(name, offset) \
+    extern ssize_t name(int file, const void *bytes, size_t size, offset at); \
+    ssize_t name(int file, const void *bytes, size_t size, offset at) { \
+        calls++; \
+        written += size; \
+        return NEXT(name)(file, bytes, size, at); \
+    }
 
-ssize_t pwrite(int file, const void *bytes, size_t size, off_t at) {
-    calls++;
-    written += size;
-    return NEXT(pwrite)(file, bytes, size, at);
-}
-
-ssize_t pread64(int file, void *out, size_t size, off64_t at) {
-    reads++;
-    read_bytes += size;
-    calls++;
-    return NEXT(pread64)(file, out, size, at);
-}
-
-ssize_t pwrite64(int file, const void *bytes, size_t size, off64_t at) {
-    calls++;
-    written += size;
-    return NEXT(pwrite64)(file, bytes, size, at);
-}
+COUNTED_READ(pread, off_t)
+COUNTED_READ(pread64, off64_t)
+COUNTED_WRITE(pwrite, off_t)
+COUNTED_WRITE(pwrite64, off64_t)
 
 __attribute__((destructor)) static void tell(void) {
     fprintf(stderr, "%lu %lu %lu %lu %lu\n", reads, read_bytes, calls, written, allocations);
